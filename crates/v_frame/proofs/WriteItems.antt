@@ -1,8 +1,6 @@
--- A whole iteration of calls that write: the plane is lent to an iterator, each draw writes into the item that it takes
--- from it in a loop, and it is dropped.
--- Rattle learns nothing of what the iterator says of held items, so the proof follows the code. It stands once for rows
--- and pixels: see `ItemKinds.antt`.
--- Assumes `Logic`.
+-- A whole iteration of calls that write. The plane is lent to an iterator. In a loop, each draw takes an item from it
+-- and writes into the item. Then the iterator is dropped. Generated proofs know nothing about kept items, so this
+-- hand-written proof follows the code. It covers rows and pixels: see `ItemKinds.antt`. Assumes `Logic`.
 use Rattle.v_frame.proofs.Steps.{arm_body, copied, option_copied_mut, option_laws, option_row, SliceRefOf, after_turn}
 use Rattle.v_frame.proofs.Steps.{fhide, lt-wf_rel, mul-le-mul_right, shr_slice_vals, spot_of, tables_of, w64}
 use Rattle.v_frame_buffer.proofs.Steps.{Goes-dropped, Item, List, MutBor, Option, SProp, ShrRef, Sq, Stays, Val, Wp}
@@ -58,7 +56,7 @@ module _ {M : Type 1} {𝓤 : Ura M} (𝓛 : Logic 𝓤) (𝓜 : Model 𝓤 𝓛
   writes_items of_pixels = (write_pixels.ended T clone dict, write_pixels.clauses T clone dict 𝓛 𝓜.mem 𝓡.returns)
   writes_items _ = (write_rows.ended T clone dict, write_rows.clauses T clone dict 𝓛 𝓜.mem 𝓡.returns)
 
-  -- the code, of the names and types that it has, and of the functions that it calls
+  -- The code, given the names and types in it and the called functions.
   module _ (option side : Sym) (kept drawing lent whole_plane read entry : Ty)
       (opening asking ahead behind changing dropping : Callee) where
     abbrev handed : Kind → Ty
@@ -76,7 +74,7 @@ module _ {M : Type 1} {𝓤 : Ura M} (𝓛 : Logic 𝓤) (𝓜 : Model 𝓤 𝓛
     abbrev changes_by : ℕ → Body
     changes_by i = gets 18 changing (value i ∷ value 5 ∷ [])
 
-    -- a row is a pointer and a length, which are put together again
+    -- A row is a pointer and a length, which are put together again.
     abbrev lends_on : Kind → Body
     lends_on of_pixels = seq (set 19 (addr_of (place 7 (deref entry ∷ [])))) (changes_by 19)
     lends_on _ = in_order (set 19 (addr_of (place 7 (field 0 ∷ deref entry ∷ []))) ∷ set 20
@@ -89,7 +87,7 @@ module _ {M : Type 1} {𝓤 : Ura M} (𝓛 : Logic 𝓤) (𝓜 : Model 𝓤 𝓛
     abbrev draws_by : ℕ → Callee → Body
     draws_by i drawn = in_order (set i (addr_of (place 3 [])) ∷ []) (gets 15 drawn (value i ∷ []))
 
-    -- an item is drawn, and where there is one it is changed
+    -- An item is taken, and changed if there is one.
     abbrev written_by : Kind → Body
     written_by k = switch (tag 6) (arm (1 ∷ []) (in_order
         (set 7 (rv_opd (copy (place 6 (variant 1 ∷ field 1 ∷ [])))) ∷ []) (lends_on k))
@@ -140,7 +138,7 @@ module _ {M : Type 1} {𝓤 : Ura M} (𝓛 : Logic 𝓤) (𝓜 : Model 𝓤 𝓛
     abbrev 𝓣 : MachineTables 𝓤 𝓛.H 𝓜
     𝓣 = tables 𝓤 𝓛.H 𝓜 𝓡 𝓡.env
 
-    -- the local in which the item is lent on, and what is new in the locals then
+    -- The local through which the item is passed on, and the changes of the locals.
     abbrev relent : (κ : Lft) (k : Kind) (x : (given T κ k).Denot) → ℕ × List (ℕ × Val)
     relent κ of_pixels x = (19, (19, its_value T κ of_pixels x) ∷ [])
     relent κ k x = (20, (19, vptr x.ref_ptr.0 x.ref_ptr.1) ∷ (20, its_value T κ k x) ∷ [])
@@ -208,7 +206,7 @@ module _ {M : Type 1} {𝓤 : Ura M} (𝓛 : Logic 𝓤) (𝓜 : Model 𝓤 𝓛
         let Shows : Item 𝓤 = ‵ (LendsBack T k loan w) in let Lender : Item 𝓤 = Kept_by 𝓛 T α δ κ κT q
         plane in
         let turning = turn k in let behind_loop = ends_so k in
-        -- so many of the draws are done, and these items are left
+        -- Some of the draws are done, and these items remain.
         let State : Type 0 = (s : ℕ × Walk T k) × (s.0 ≤ n) ×
         (left T k s.1 ≡ remaining_in_turn (left T k w) (map (side_of T k) (take s.0 draws))) in
         let Nearer : State → State → Type 0 = λ t u. n - t.0.0 < n - u.0.0 in
@@ -255,9 +253,9 @@ module _ {M : Type 1} {𝓤 : Ura M} (𝓛 : Logic 𝓤) (𝓜 : Model 𝓤 𝓛
         (nth_drawn 𝓛 T k draws i h w walk new t.2 fewer) $ move ! (1 ∷ 0 ∷ []) $
         again ! Nearer Now t ((i + 1, new), omega (arith, h), nth_left (side_of T k) _ draws i h _ _ t.2 fewer)
         (omega (arith, h)) in
-        -- what is done with the item, once it is drawn: [the iterator; the token of κw; the item; what is lent; what is
-        -- said; the tokens of κT and κd; nothing;
-        -- the draw; the draws; what was put back; the rest; the locals]
+        -- The code that changes the item after it is taken. Context: [the iterator; the token of κw; the item; the
+        -- loan; the clauses; the tokens of κT and κd; nothing; the draw; the draws; the items put back; the rest; the
+        -- locals].
         let writes : (v : Val) (r : Option (MutBor (Entry T k))) (new : Walk T k) → Sq 𝓛
         (‵ (Walking.own_val new (low new ∷ [])) ∷ ‵ (flft κw qw) ∷
         ‵ (Gives.own_val r (v ∷ [])) ∷ (Draws 𝓛 T k walk r new d.side ++ ‵ (flft κT rT) ∷ ‵ (flft κd qd) ∷ ‵ ftrue ∷
@@ -373,12 +371,12 @@ module _ {M : Type 1} {𝓤 : Ura M} (𝓛 : Logic 𝓤) (𝓜 : Model 𝓤 𝓛
         forget_but ! En (1 ∷ 2 ∷ 3 ∷ 4 ∷ 5 ∷ 10 ∷ []) refl $ writes v r us.0))))))
         (λ over. let all : i ≡ n = omega (arith, nltb→le i n over, t.1) in
         jumps ! $ exec ! 𝓣.C 𝓣.Λ En behind_loop (at_ret En Post) $
-        -- [the iterator; what was put back; the tokens of κw, κT and κd; the draws; how the plane ends; its lender; the
-        -- way back; the locals]. The law of the iterator is called
+        -- Context: [the iterator; the items put back; the tokens of κw, κT and κd; the draws; how the plane ends; its
+        -- lender; the way back; the locals]. The law of the iterator is called.
         calls ! (3 ∷ []) run (law 𝓛 𝓜 𝓡 T k).0 (law 𝓛 𝓜 𝓡 T k).1 law_holds (((κT, tt), (rT, tt), tt, tt, tt), tt)
         (asks_that 𝓤 inT) refl (no_more !) (λ r us. ‵ (Law T k) ∷ []) (λ r us. id⊢ 𝓤 _)
         (λ v r us. feq_l ! (λ is_unit. lands_as ! (ap only is_unit) refl (tt, tt) $
-        -- the iterator is dropped, and the plane comes back as its items end
+        -- The iterator is dropped, and the plane comes back with the final values of its items.
         move ! (0 ∷ 2 ∷ 7 ∷ []) $ use3 𝓛 (‵ (FinalItems T k walk (left T k walk)) ⊛ ‵ (EndsBy T k loan w))
         (by_law T 𝓛 k ℓ walk w (low walk ∷ []) loan begun) $ split ! $
         -- [the final items; how the plane ends; the token of κT; what was put back; the tokens of κw and κd; the draws;

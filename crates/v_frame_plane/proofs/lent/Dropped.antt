@@ -1,5 +1,5 @@
--- A function that runs nothing and says what iterators that are dropped leave, where this is so. The laws of rows and
--- of pixels are instances. Assumes `Logic`.
+-- A function that executes nothing and states the effect of dropping an iterator. The laws of rows and of pixels are
+-- instances. Assumes `Logic`.
 use Rattle.v_frame_buffer.proofs.Steps.{[], ◌∷◌, List, refl, proved, flft, ftrue, emp, ent, sep, fact, ◌⊑◌, tables, Val}
 use Rattle.v_frame_buffer.proofs.Steps.{Stays, Clauses, ends_at, alloc_all, free_all, look_at, pass_all, sets, ‵, raw}
 use Rattle.v_frame_buffer.proofs.Steps.{◌⊛◌, ◌$◌, ◌∵◌, !, qed, done, drop, feq_i, join, move, nothing, split, suffices}

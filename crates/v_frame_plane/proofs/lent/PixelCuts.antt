@@ -1,8 +1,9 @@
--- A call of `cut_first` or `cut_last`, and what `next` or `next_back`, which makes it, leaves of the final values.
--- Assumes `Logic`.
---     cuts_one     the slice goes to the call, which gives its pixel and the rest: it ends as they do
--- takes_near, fewer, steps     so the iterator ends as the pixel and what is left, which can be counted, and the pixel
--- is the next at that end
+-- A call of `cut_first` or `cut_last`, and the effect of `next` or `next_back`, which makes this call, on the final
+-- values. Assumes `Logic`.
+-- - cuts_one: the slice is passed to the call, which returns its pixel and the rest. The final slice consists of
+--   these.
+-- - takes_near, fewer, steps: the final iterator consists of the pixel and the remaining pixels. The remaining pixels
+--   are countable, and the pixel is the next one at this end.
 use Rattle.v_frame_buffer.proofs.Steps.{◌≡◌, ◌^◌, ◌<◌, List, [], ◌∷◌, ◌++◌, length, MutBor, refl, ap, ◌∙◌, arith, Lft}
 use Rattle.v_frame_buffer.proofs.Steps.{Share, flft, SProp, ent, sep, wand, id⊢, ◌⊑◌, fact, Array, shows, param}
 use Rattle.v_frame_buffer.proofs.Steps.{RattleType, MutRef, MutSlice, slice_val, heard, only, peeks, triple_of}
@@ -25,7 +26,7 @@ use Rattle.v_frame_plane.proofs.lent.PixelSides.{cut_clauses}
 use Rattle.v_frame_plane.proofs.lent.PixelParts.{of_parts, parts_of}
 use Rattle.v_frame_plane.proofs.lent.Sides.{Side, at_front, at_back, near, far, put, Countable, walk_by, Steps, Takes}
 
--- where the pixel of a slice is that was cut into this one and the rest
+-- The list that results when a pixel and the rest are joined at one end.
 abbrev Put : Type 0 → Type 0
 Put X = X → List X → List X
 
@@ -97,7 +98,7 @@ module _ {M : Type 1} {𝓤 : Ura M} (𝓛 : Logic 𝓤) (T : RattleType) where
   abbrev One : GName → T.Denot → SProp 𝓤
   One name pixel = sem 𝓛 (PixelEndsAs T name pixel)
 
-  -- a slice that was cut ends as its pixel and the rest
+  -- The final value of a split slice consists of its pixel and the rest.
   pub ends_put : (put : Put T.Denot) (whole pixel rest : GName) (w : T.Denot) (xs : List T.Denot)
       → ent 𝓤 (sep 𝓤 (sem 𝓛 (follows_both Whole T Whole whole pixel rest put)) (sep 𝓤 (One pixel w) (Ends rest xs)))
       (Ends whole (put w xs))
@@ -156,7 +157,7 @@ module _ {M : Type 1} {𝓤 : Ura M} (𝓛 : Logic 𝓤) (T : RattleType) where
         })) $ done !)))
 
 module _ {X : Type 0} (walk : PixelsMut X) where
-  -- one pixel less at this end
+  -- One pixel fewer remains at this end.
   pub fewer : (s : Side) (pixel : X) (rest : List X) → (near s walk).now ≡ put s pixel rest → Countable s rest
       (rows_left walk.rows) (far s walk).now
   fewer at_front pixel rest is = record {
@@ -171,7 +172,7 @@ module _ {X : Type 0} (walk : PixelsMut X) where
             (arith, walk.countable.bound, ap length is, length-append rest (pixel ∷ []));
       }
 
-  -- that pixel is the first of all, or the last
+  -- This pixel is the first of all, or the last.
   pub steps : (s : Side) (pixel : MutBor X) (rest : MutBor (List X)) → (near s walk).now ≡ put s pixel.now rest.now →
       (countable : Countable s rest.now (rows_left walk.rows) (far s walk).now) → Steps s walk pixel
       (walk_by s rest walk.rows (far s walk) countable)

@@ -1,9 +1,9 @@
--- What an iterator over lent pixels is once a row was begun, and that what its pixels hold when the borrow ends, those
--- that were left before do. Assumes
--- `Logic`.
--- begun     a row was drawn and is what was begun at this end now.        taken     no row was left, and the other
--- end's row was taken
---     keeps_by     how each of these keeps its pixels: what an end of the new iterator's parts is for the old one
+-- The state of an iterator over lent pixels after a row was begun. Its pixels have the same final values as those
+-- that remained before. Assumes `Logic`.
+-- - begun: a row was taken, and is now the begun row at this end.
+-- - taken: no row remained, and the begun row of the other end was taken.
+-- - keeps_by: each of these steps keeps the pixels. An end among the parts of the new iterator corresponds to an end
+--   of the old one.
 use Rattle.v_frame_buffer.proofs.Steps.{◌≡◌, List, Option, None, [], ◌∷◌, ◌++◌, length, Some, MutBor, refl, sym, ap}
 use Rattle.v_frame_buffer.proofs.Steps.{◌∙◌, arith, SProp, all, all_e, apply∗, ent, sep, wand, RattleType, Ura, ‵, raw}
 use Rattle.v_frame_buffer.proofs.Steps.{◌$◌, ◌∵◌, !, qed, assume, done, each, fjoin3, fpick, fsplit, fsplit3, join}
@@ -53,7 +53,7 @@ module _ {T : Type 0} (old : PixelsMut T) (rows : RowsMut T) where
     begun_full at_front is none = absurd (omega (arith, ((drawn at_front is).full old.countable.full).0, none))
     begun_full at_back is none = absurd (omega (arith, ((drawn at_back is).full old.countable.full).0, none))
 
-  -- e is what `take` leaves
+  -- The value e is the one that `take` leaves.
   module _ (e : MutBor (List T)) (empty : e.now ≡ []) (had : was ≡ []) (none : left ≡ []) where
     pub taken_countable : (s : Side) → Countable s (far s old).now left e.now
     taken_countable at_front = none_countable old.countable none old.back.now e.now (omega (arith, ap length empty))
@@ -74,7 +74,7 @@ module _ {M : Type 1} {𝓤 : Ura M} (𝓛 : Logic 𝓤) (T : RattleType) where
   abbrev Ends : MutBor (List T.Denot) → List T.Denot → Fml
   Ends x entries = EndsAs T x.ghost_name entries
 
-  -- nothing was left at this end, and `given` is what the draw of a row leaves
+  -- Nothing remained at this end, and `given` is the effect of taking a row.
   keeps_by : (s : Side) (old new : PixelsMut T.Denot) (given : Fml) (turn : Parts T.Denot → Parts T.Denot) → length
       (near s old).now ≡ 0
       → ((second : List T.Denot) (parts : Parts T.Denot) → ArePartsOf new second parts → ArePartsOf old second
@@ -97,7 +97,7 @@ module _ {M : Type 1} {𝓤 : Ura M} (𝓛 : Logic 𝓤) (T : RattleType) where
     abbrev Left : List (List T.Denot)
     Left = rows_left rows
 
-    -- the row that was at its end, and what the draw of a row leaves
+    -- The row that was used up, and the effect of taking a row.
     abbrev Drawn : Side → Option (MutBor (List T.Denot)) → Fml
     Drawn s r = fsep (Ends (near s old) (near s old).now) (LendsRow s T old.rows r rows)
 

@@ -1,7 +1,6 @@
--- `next_of_front` and `next_of_back` of an iterator that lends pixels, of which `s` is the one end: the pixel next to
--- that end is cut off the row that was
--- begun there, and the rest is kept. A `&mut` in a field of self no generated proof follows, so this one follows the
--- code. Assumes `Logic`.
+-- `next_of_front` and `next_of_back` of an iterator that lends pixels. The end at which a function works is `s`. The
+-- function cuts the next pixel off the begun row at this end, and keeps the rest. Generated proofs cannot follow a
+-- `&mut` in a field of self, so this hand-written proof follows the code. Assumes `Logic`.
 use Rattle.v_frame_buffer.proofs.Steps.{◌+◌, [], ◌∷◌, refl, closes, heard, framed, named, mut, erased, alloc_all}
 use Rattle.v_frame_buffer.proofs.Steps.{free_all, get, get_in, lands_as, look_at, pass_all, sets, through, ‵, raw, ◌⊛◌}
 use Rattle.v_frame_buffer.proofs.Steps.{◌$◌, !, drop, move, split, rewrite, use1, use2, agg, whole, addr, and_then}
@@ -24,8 +23,8 @@ use Rattle.v_frame_plane.proofs.lent.Taken.{IsTake, calls_take, word}
 use Rattle.v_frame_buffer.proofs.CallSteps.{told}
 use Rattle.v_frame_plane.proofs.lent.Methods.{Met, gets, gives, in_order, meets_by, method, set, value}
 
--- the code and its proof, over the code's names for self, its rows and a pair, the types of self and of an entry, and
--- what it calls
+-- The code and its proof. The parameters are the names in the code for self, for its rows and for a pair, the types
+-- of self and of an entry, and the called functions.
 module _ {M : Type 1} {𝓤 : Ura M} (𝓛 : Logic 𝓤) (𝓜 : Model 𝓤 𝓛.H) (𝓡 : Running 𝓤 𝓛.H 𝓜) (T : RattleType)
     (laws : Laws T) (s : Side) (self rows pair : Sym)
     (kept entry : Ty) (taking cutting : Callee) where

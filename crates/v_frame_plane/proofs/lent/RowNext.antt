@@ -1,7 +1,6 @@
--- `next` and `next_back` of an iterator that lends rows, of which `s` is the one end: the slice is cut where the row
--- next to that end begins and where it ends,
--- and what lies towards the other end is kept. A `&mut` in a field of self no generated proof follows, so this one
--- follows the code. Assumes `Logic`.
+-- `next` and `next_back` of an iterator that lends rows. The end at which a function works is `s`. The slice is split
+-- where the next row at this end begins and where it ends, and the part towards the other end is kept. Generated
+-- proofs cannot follow a `&mut` in a field of self, so this hand-written proof follows the code. Assumes `Logic`.
 use Rattle.v_frame_buffer.proofs.Steps.{param_laws, ℕ, ◌≡◌, ◌+◌, ◌-◌, ◌*◌, ◌^◌, ◌<◌, List, [], ◌∷◌, length, Some, None}
 use Rattle.v_frame_buffer.proofs.Steps.{lit<, w64, Val, fat, slice_val, vcons, vstruct, refl, ap, ◌∙◌, arith}
 use Rattle.v_frame_buffer.proofs.Steps.{length-drop, Some-of, none_of, full_share, id⊢, ⊑_trans, fact, tables, param}
@@ -38,7 +37,7 @@ use Rattle.std.specs.contracts.option.Option as Opt
 use Rattle.v_frame_plane.specs.contracts.rows_mut.RowsMut as rows_mut
 use Rattle.v_frame_plane.specs.contracts.rows_mut.row_place
 
--- what code reads by side
+-- The parts of the code that depend on the end.
 module _ {M : Type 1} {𝓤 : Ura M} {𝓛 : Logic 𝓤} {K : Type 0} {Γ : List (Item 𝓤)} {E : Env 𝓤 𝓛.H} where
   opd_by : (s : Side) (v : Side → Val) {x y : Operand} → Opd K 𝓛 Γ E x (v at_front) → Opd K 𝓛 Γ E y (v at_back) → Opd K
       𝓛 Γ E (at_side s x y) (v s)
@@ -49,15 +48,15 @@ module _ {M : Type 1} {𝓤 : Ura M} {𝓛 : Logic 𝓤} {K : Type 0} {Γ : List
   rv_by s v {x} {y} front back = by_side (λ e. Rv K 𝓛 Γ E (at_side e x y) (v e)) front back s
 
 module _ {M : Type 1} {𝓤 : Ura M} {𝓛 : Logic 𝓤} {K : Type 0} {X : Type 0} {Γ : List (Item 𝓤)} {G : Goal 𝓤 𝓛.H} where
-  -- what is kept, and then the other one
+  -- The part that is kept, followed by the other part.
   kept_first : K → (s : Side) (Own : X → Item 𝓤) (behind before : X) → Step K 𝓛
       (Own (at_side s behind before) ∷ Own (at_side s before behind) ∷ Γ) G
       (Own behind ∷ Own before ∷ Γ) G
   kept_first t at_front Own behind before = step (λ k. k)
   kept_first t at_back Own behind before = step (λ k. move t (1 ∷ 0 ∷ []) $ k)
 
--- the code and its proof, over the code's names for what a call gives, self and two parts, the types of self and of an
--- entry, and the functions that it calls
+-- The code and its proof. The parameters are the names in the code for the result, for self and for two parts, the
+-- types of self and of an entry, and the called functions.
 module _ {M : Type 1} {𝓤 : Ura M} (𝓛 : Logic 𝓤) (𝓜 : Model 𝓤 𝓛.H) (𝓡 : Running 𝓤 𝓛.H 𝓜) (T : RattleType)
     (laws : Laws T) (s : Side)
     (option self pair : Sym) (kept entry : Ty) (placing taking splitting : Callee) where
@@ -67,7 +66,7 @@ module _ {M : Type 1} {𝓤 : Ura M} (𝓛 : Logic 𝓤) (𝓜 : Model 𝓤 𝓛
   abbrev own : ℕ → Place
   own k = place 1 (deref Self ∷ field k ∷ [])
 
-  -- part k of the two in local i is lent on: its pointer, and then the slice, of the pointer in local j
+  -- Part k of the two parts in local i is passed on: first its pointer, and then the slice at the pointer in local j.
   abbrev pointer : (i k : ℕ) → Rvalue
   pointer i k = addr_of (place i (field k ∷ field 0 ∷ deref entry ∷ []))
 
@@ -131,7 +130,7 @@ module _ {M : Type 1} {𝓤 : Ura M} (𝓛 : Logic 𝓤) (𝓜 : Model 𝓤 𝓛
       refl (tt, count_fits) $
       sets ! (bin ! (get ! refl) (lit ! tt) tt) refl (tt, tt) $
       first ! $ branches ! (get ! refl)
-      -- where no row is left all stays as it is
+      -- If no row remains, everything is unchanged.
       (λ empty. closes ! tt Row h (lowered h ∷ []) b o $
       sets ! (agg ! (and_then ! (lit ! tt) (no_more !))) refl (tt, (record { fits = lit< tt }, tt)) $
       returns_within ! Post refl (look_at ! 0 refl) $ free_all ! refl $

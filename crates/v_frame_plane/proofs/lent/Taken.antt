@@ -1,8 +1,8 @@
--- A `&mut [T]` of the lifetime κ in a proof by hand: what takes it out of its place, and what may give one. Assumes
--- `Logic`.
--- calls_take     a call of `mem::take`: the place is lent to the call, and holds an empty slice afterwards: what it
--- held is handed back
---     by_row         whether a call of `next` or `next_back` of an iterator over lent rows gave a row
+-- A `&mut [T]` of the lifetime κ in a hand-written proof: the call that takes it out of its place, and the calls that
+-- may yield one. Assumes `Logic`.
+-- - calls_take: a call of `mem::take`. The place is lent to the call and holds an empty slice afterwards. The old
+--   value is returned.
+-- - by_row: the cases of a call of `next` or `next_back` of an iterator over lent rows, which may yield a row.
 use Rattle.v_frame_buffer.proofs.Steps.{ℕ, ◌≡◌, List, [], ◌∷◌, length, w64, MutBor, refl, ap, ◌∙◌, Lft, Share, fat}
 use Rattle.v_frame_buffer.proofs.Steps.{flent, flft, full_share, SProp, id⊢, ◌⊑◌, ⊑_trans, Fun, fact, shows, mem, param}
 use Rattle.v_frame_buffer.proofs.Steps.{Laws, param_laws, RattleType, NamedLft, MutSlice, slice_val, heard, only, peeks}
@@ -28,7 +28,7 @@ use Rattle.core.proofs.mem.take.Symbol as take_code
 use Rattle.core.proofs.slice.empty.RefMutSliceDefault.TheImpl.Met as default_met
 use Rattle.core.proofs.slice.empty.RefMutSliceDefault.default.Symbol as default_code
 
--- a slice as a place in memory has it
+-- A slice in the form that a place in memory has.
 abbrev pub word : Ty
 word = ty_struct [] (tcons ty_ptr (tcons (ty_int w64) tnil))
 
@@ -64,12 +64,12 @@ module _ {M : Type 1} {𝓤 : Ura M} (𝓛 : Logic 𝓤) (at_mem : Memory → SP
         let place : MutBor (MutBor (List T.Denot)) = record { ref_ptr = (b, o); ghost_name = γ; now = x } in
         (((κ', (κ', tt)), (Share.left s, (Share.right s, tt)), (⊑_refl κ', tt), (place, tt), (vptr b o ∷ [], tt)), tt)
 
--- this is `take`, at each lifetime
+-- This function is `take`, at each lifetime.
 abbrev pub IsTake : {M : Type 1} {𝓤 : Ura M} (𝓛 : Logic 𝓤) (at_mem : Memory → SProp 𝓤) (run : Routine → Fun 𝓤)
     (T : RattleType) → Fun 𝓤 → Type 1
 IsTake {𝓤 = 𝓤} 𝓛 at_mem run T taking = (κ : Lft) → κ ⊑ T.lives → Triple 𝓤 taking (Take 𝓛 at_mem run T κ)
 
--- the call does what `take` promises
+-- The call has the effect that `take` promises.
 pub take_meets : {M : Type 1} {𝓤 : Ura M} (𝓛 : Logic 𝓤) (𝓜 : Model 𝓤 𝓛.H) (𝓡 : Running 𝓤 𝓛.H 𝓜) → Wired 𝓡.env
     take_code.code → Wired 𝓡.env default_code.code →
     (T : RattleType) (laws : Laws T) (κ : Lft) → κ ⊑ T.lives
@@ -83,7 +83,7 @@ take_meets {M} {𝓤} 𝓛 𝓜 𝓡 takes defaults T laws κ inT =
 module _ {M : Type 1} {𝓤 : Ura M} {𝓛 : Logic 𝓤} {K : Type 0} {Γ : List (Item 𝓤)} {E : Env 𝓤 𝓛.H} {C : Calls 𝓤 𝓛.H}
     {Λ : Loops 𝓤 𝓛.H} {f : Callee} {xs :
     List Operand} {d : Place} {rest : Code} {p : Post 𝓤 𝓛.H} where
-  -- up to where what the place held is stored: the place holds an empty slice then
+  -- Everything up to the store of the old value. The place then holds an empty slice.
   pub calls_take : K → FmC 𝓤 𝓛.H 𝓛.laws C → (at_mem : Memory → SProp 𝓤) (run : Routine → Fun 𝓤) (T : RattleType)
       (κ : Lft) →
       Triple 𝓤 (C f) (Take 𝓛 at_mem run T κ) → (q : Share) (x : MutBor (List T.Denot)) (b o : ℕ) → κ ⊑ T.lives

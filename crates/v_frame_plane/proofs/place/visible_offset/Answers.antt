@@ -1,4 +1,4 @@
--- The pixel is in its row, and the row in the buffer.
+-- The pixel lies in its row, and the row lies in the buffer.
 use Rattle.std.proofs.Common.{refl, arith}
 use Rattle.v_frame_raster.proofs.Plans.{row_start_within}
 use Rattle.v_frame_plane.proofs.place.visible_offset.Goals as goal

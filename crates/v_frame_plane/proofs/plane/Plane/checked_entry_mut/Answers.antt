@@ -1,4 +1,4 @@
--- What is written through the loan is written at the place.
+-- A write through the loan is a write at the index.
 use Rattle.std.proofs.Common.{◌≤◌, length, slice_get, slice_set, ap, ◌∙◌, arith}
 use Rattle.std.specs.Option.{ghost_name_of}
 use borrow.Follows.Closed.{read_of}

@@ -1,6 +1,5 @@
--- `pixels_mut` makes the iterator over the pixels of that over the rows, whose slice is the whole buffer. That this
--- slice
--- lies two fields deep no generated proof follows, so this one follows the code.
+-- `pixels_mut` makes the iterator over pixels from the iterator over rows, whose slice is the whole buffer. Generated
+-- proofs cannot follow a slice that lies two fields deep, so this hand-written proof follows the code.
 use Rattle.v_frame_buffer.proofs.Steps.{◌≡◌, ◌^◌, ◌<◌, [], ◌∷◌, length, refl, sym, ap, ◌∙◌, arith, proved, id⊢, ◌⊑◌, use1}
 use Rattle.v_frame_buffer.proofs.Steps.{fact, tables, param, layouts, mut_vals, mut_Tells, plain, named_lft, Array}
 use Rattle.v_frame_buffer.proofs.Steps.{shows, heard, nothing, peeks, framed, walk_of, Stays, inst_fn, a_type, named}

@@ -1,6 +1,5 @@
--- `row_mut` tests y and passes on what `visible_row_mut` lends, in a `Some`. Rattle makes no proof where a `&mut [T]`
--- may be lent, so this one follows the
--- code.
+-- `row_mut` checks y and wraps the slice that `visible_row_mut` lends in `Some`. Rattle generates no proof for a
+-- `&mut [T]` that is lent only in some cases, so this hand-written proof follows the code.
 use Rattle.v_frame_buffer.proofs.Steps.{◌≡◌, ◌<◌, ◌≤◌, List, [], ◌∷◌, length, Some, None, lit<, w64, refl, sym, ap}
 use Rattle.v_frame_buffer.proofs.Steps.{arith, after, Some-of, none_of, proved, Lft, flent, flft, full_share, ent, id⊢}
 use Rattle.v_frame_buffer.proofs.Steps.{◌⊑◌, ⊑_trans, fact, tables, Array, usize, yes, no, mem, param, layouts}
@@ -38,7 +37,7 @@ use Rattle.v_frame_plane.specs.contracts.plane.Plane.row_mut
 use Rattle.v_frame_plane.proofs.plane.Plane.row_mut.Statement.{statement}
 use Rattle.v_frame_plane.proofs.plane.Plane.row_mut.Code as code
 
--- what ends as a function and a value say ends as what holds of them says
+-- A final value that is determined by a function also meets every statement that follows from this.
 such : {M : Type 1} {𝓤 : Ura M} (𝓛 : Logic 𝓤) (R S : RattleType) (γ : GName) (m : Option GName) (F : S.Denot → R.Denot)
     (v : R.Denot)
     (P : S.Denot → R.Denot → Type 0) (P₀ : R.Denot → Type 0) → ((w : S.Denot) → P w (F w)) → P₀ v
@@ -70,7 +69,7 @@ row_mut_spec 𝓤 𝓛 𝓜 𝓡 wired T laws =
     opened 𝓛 En.signature κs qs a (mut_vals self, (uint_vals w64 y, tt)) (κT ⊑ T.lives) (λ inT.
     enter ! _ _ _ _ _ $ alloc_all ! (λ l. pass_all ! refl ((tt, tt), ((tt, record { fits = are.1.0.1 }), tt)) $
     sets ! (addr ! (through ! refl (stop !))) refl (tt, tt) $
-    -- the plane is shared with `height` for a lifetime κ', which is made for that call
+    -- The plane is shared with `height` for a lifetime κ', which is created for this call.
     move ! (1 ∷ []) $ lft_within ! tt κT qT (λ α.
     let κ' : Lft = α ∷ κT in let s = share_within qT in let shared = as_bor self in
     let within : κ' ⊑ T.lives = ⊑_trans κ' κT T.lives (meet_⊑_right (α ∷ []) κT) inT in
@@ -102,7 +101,7 @@ row_mut_spec 𝓤 𝓛 𝓜 𝓡 wired T laws =
     sets ! (bin ! (get ! refl) (get ! refl) tt) refl (tt, tt) $
     -- [self; the token of κ; that of κT; y; the locals]
     first ! $ branches ! (get ! refl)
-    -- below the rectangle the plane stays as it is
+    -- If y is not a visible row, the plane is unchanged.
     (λ below.
     sets ! (agg ! (and_then ! (lit ! tt) (no_more !))) refl (tt, (record { fits = lit< tt }, tt)) $
     returns_within ! Post refl (look_at ! 0 refl) $ free_all ! refl $
@@ -115,7 +114,7 @@ row_mut_spec 𝓤 𝓛 𝓜 𝓡 wired T laws =
     (tt, (tt, tt)) refl $
     let past : self.now.geometry.height ≤ y = omega (arith, leb→le rows y below, is_height) in
     frame ! $ tells ! (sym (no_row_below self.now y past)) $ tells ! (λ _. past, λ _. refl) $ told ! tt)
-    -- inside it the plane ends as the row that is lent says
+    -- Otherwise the final plane follows from the final row.
     (λ within_rows.
     skips ! $ exec ! 𝓣.C 𝓣.Λ (env function.locals l) (after 4 function.body) (at_ret _ Post) $
     sets ! (addr ! (through ! refl (stop !))) refl (tt, tt) $

@@ -1,5 +1,5 @@
--- `two_parts` cuts a slice into its front and its back, and a part out of each, and lends both parts. Rattle follows no
--- part of a part, so this proof follows the code.
+-- `two_parts` splits a slice into its front and its back, cuts a part out of each, and lends both parts. Rattle
+-- cannot follow a part of a part, so this hand-written proof follows the code.
 use Rattle.v_frame_buffer.proofs.Steps.{ℕ, ◌≡◌, ◌+◌, ◌-◌, ◌≤◌, List, [], ◌∷◌, ◌++◌, length, take, list_drop, w64}
 use Rattle.v_frame_buffer.proofs.Steps.{MutBor, refl, ap, ◌∙◌, arith, length-drop, proved, sep, ◌⊑◌, fact, tables}
 use Rattle.v_frame_buffer.proofs.Steps.{usize, param, layouts, plain, uint_vals, Valss, MutSlice, slice_val, nothing}
@@ -20,7 +20,7 @@ use Rattle.v_frame_plane.proofs.lent.Cuts.{slices_fit, word_fits}
 use Rattle.v_frame_plane.proofs.plane.pairs.two_parts.Statement.{statement}
 use Rattle.v_frame_plane.proofs.plane.pairs.two_parts.Code as code
 
--- a part of the front is one of the whole
+-- A part of the front is a part of the whole.
 part_of_front : {X : Type 0} (xs : List X) (start width next : ℕ) → start + width ≤ next
     → take width (list_drop start (take next xs)) ≡ take width (list_drop start xs)
 part_of_front xs start width next order =

@@ -1,4 +1,4 @@
--- The entry at the place, which inside the rectangle is the table's pixel.
+-- The result is the entry at the index. Inside the visible rectangle, it is the pixel of the table.
 use Rattle.std.proofs.Common.{◌≡◌, ◌+◌, ◌*◌, ◌<◌, ◌≤◌, drop, length, length-drop, slice_get, Some, sym, ap, ◌∙◌, arith}
 use Rattle.std.proofs.lemmas.Option.{slice_get-get_or}
 use Rattle.v_frame_raster.specs.Raster.{Raster, raster}
@@ -7,7 +7,7 @@ use Rattle.v_frame_raster.proofs.tables.Lists.{slice_get-drop}
 use Rattle.v_frame_raster.proofs.tables.Places.{pixel_inside, counted_get, copied_get, none_past_end}
 use Rattle.v_frame_plane.proofs.plane_ref.PlaneRef.pixel.Goals as goal
 
--- inside the rectangle
+-- Inside the visible rectangle.
 pub returns-then-y-height-clause-value : goal.returns-then-y-height-clause-value
 returns-then-y-height-clause-value g c =
     let p : Raster g.row.T.Denot = raster c.self.inside.geometry c.self.inside.buffer.now in
