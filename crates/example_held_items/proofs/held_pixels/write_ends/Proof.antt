@@ -1,6 +1,5 @@
--- `write_ends` holds three pixels, and writes through them once the iterator is dropped. What a plane ends as, of which
--- such pixels were lent, no generated
--- proof follows, so this one follows the code.
+-- `write_ends` keeps three pixels, and writes through them after the iterator is dropped. Generated proofs cannot
+-- follow the final state of a plane whose pixels were lent in this way, so this hand-written proof follows the code.
 use Rattle.v_frame_buffer.proofs.Steps.{Goes-dropped, Goes-ref, Is, Lft, List, NamedLft, Stays, Val, a_type, addr}
 use Rattle.v_frame_buffer.proofs.Steps.{alloc_all, and_then, ap, arith, bounded, dcons, dnil, enter, env, feq_i, fld}
 use Rattle.v_frame_buffer.proofs.Steps.{free_all, from, get, get_in, get_tag, give_at, in_variant, inst_fn, lands_as}
@@ -74,13 +73,13 @@ write_ends_spec 𝓤 𝓛 𝓜 𝓡 wired T laws copy clone dict met =
     let first_met = of_walks.next.Met.met 𝓤 𝓛 𝓜 𝓡 (code.calls-v_frame_plane::pixels_mut::PixelsMut::next 𝓡.env wired) T
     laws in
     let some₀ : 2 < length (pixels_left walk) = omega (arith, known.1, ap length begun.all) in
-    -- the last pixel
+    -- The last pixel.
     sets ! (addr ! (from ! (stop !))) refl (tt, tt) $ take_at ! 5 $ move ! (0 ∷ 1 ∷ 3 ∷ 4 ∷ []) $
     draws_item 𝓛 𝓜 𝓡 T laws Back of_pixels _ _ _ _ _ _ _ _ ! last_met κ' κT s rT inside inT τ (l 5) walk refl
     (λ i j m. get ! refl) (λ one none.
     absurd (omega (arith, some₀, ap length none.0)))
     (λ end one last _. give_at ! 5 $ lands_as ! refl refl (tt, (record { fits = lit< tt }, (tt, tt))) $
-    -- [the pixel; the iterator; the token of κ'; how it was drawn; the token of κT; ..]. The first pixel
+    -- Context: [the pixel; the iterator; the token of κ'; how it was drawn; the token of κT; ..]. The first pixel.
     let some₁ : 1 < length (pixels_left one) = omega
     (arith, some₀, ap length last, length-append (pixels_left one) (end.now ∷ [])) in
     sets ! (addr ! (from ! (stop !))) refl (tt, tt) $ take_at ! 5 $ move ! (0 ∷ 2 ∷ 3 ∷ 5 ∷ []) $
@@ -88,7 +87,7 @@ write_ends_spec 𝓤 𝓛 𝓜 𝓡 wired T laws copy clone dict met =
     (λ i j m. get ! refl) (λ two none.
     absurd (omega (arith, some₁, ap length none.0)))
     (λ start two foremost _. give_at ! 5 $ lands_as ! refl refl (tt, (record { fits = lit< tt }, (tt, tt))) $
-    -- the last but one
+    -- The last pixel but one.
     let some₂ : 0 < length (pixels_left two) = omega (arith, some₁, ap length foremost) in
     sets ! (addr ! (from ! (stop !))) refl (tt, tt) $ take_at ! 5 $ move ! (0 ∷ 2 ∷ 3 ∷ 5 ∷ []) $
     draws_item 𝓛 𝓜 𝓡 T laws Back of_pixels _ _ _ _ _ _ _ _ ! last_met κ' κT s rT inside inT τ (l 5) two refl
@@ -107,7 +106,7 @@ write_ends_spec 𝓤 𝓛 𝓜 𝓡 wired T laws copy clone dict met =
     sets ! (of_opd ! (get_in ! (vrt ! refl (fld ! refl (stop !))) (in_variant ! 1 0 refl refl (whole !)))) refl
     (tt, tt) $
     jumps ! $ exec ! 𝓣.C 𝓣.Λ En (after 10 function.body) (at_ret En (Walk.post bound)) $
-    -- the value that is written twice is there twice
+    -- The value that is written twice is copied.
     move ! (1 ∷ []) $ move ! (14 ∷ []) $ use1 𝓛 (‵ (item.own_val z (val z)) ⊛ ‵ (item.own_val z (val z)))
     ((copy.copies _ 𝓤 𝓛).twice z (val z)) $ split ! $
     -- [the last value, twice; what the iterator left; the last but one; the token of κ'; how it was drawn; the token of
@@ -122,9 +121,9 @@ write_ends_spec 𝓤 𝓛 𝓜 𝓡 wired T laws copy clone dict met =
     (λ i j m n v. through ! refl (stop !)) $
     move ! (8 ∷ 1 ∷ 3 ∷ []) $ writes_pixel ! T copy κ' s end z wz (λ i j m n v. of_opd ! (get ! refl))
     (λ i j m n v. through ! refl (stop !)) $
-    -- [the last pixel; the token of κ'; the first; the last but one; the iterator; how the last but one was drawn; the
-    -- token of κT; how the first and the last were; how the plane ends; what its lender keeps; the way back]. The law of
-    -- the iterator is called
+    -- Context: [the last pixel; the token of κ'; the first; the last but one; the iterator; how the last but one was
+    -- drawn; the token of κT; how the first and the last were; how the plane ends; the lender's part; the way back].
+    -- The law of the iterator is called.
     calls ! (6 ∷ []) (framed 𝓤 𝓛.H 𝓜 𝓣) (law 𝓛 𝓜 𝓡 T of_pixels).0 (law 𝓛 𝓜 𝓡 T of_pixels).1
     (law_met.met 𝓤 𝓛 𝓜 𝓡 (code.calls-v_frame_plane::laws::dropped_pixels_keep_their_values 𝓡.env wired) T laws)
     (((κT, tt), (rT, tt), tt, tt, tt), tt) (asks_that 𝓤 inT) refl (no_more !) (λ r us. ‵ (Law T of_pixels) ∷ [])

@@ -1,6 +1,6 @@
--- `fill_last_row` lends its plane to an iterator, draws a row from its end, fills it, and drops the iterator. What a
--- plane ends as, of which such a row was
--- lent, no generated proof follows, so this one follows the code.
+-- `fill_last_row` lends its plane to an iterator, takes a row from its end, fills it, and drops the iterator.
+-- Generated proofs cannot follow the final state of a plane whose row was lent in this way, so this hand-written
+-- proof follows the code.
 use Rattle.v_frame_buffer.proofs.Steps.{Goes-dropped, Goes-ref, List, NamedLft, SProp, Sq, Stays, Val, a_type, addr}
 use Rattle.v_frame_buffer.proofs.Steps.{after, agg, alloc_all, and_then, at_ret, bounded, dcons, dnil, drop, enter, env}
 use Rattle.v_frame_buffer.proofs.Steps.{exec, fact, feq_i, feq_l, first, fld, flft, framed, free_all, from, fsplit, get}
@@ -69,7 +69,7 @@ fill_last_row_spec 𝓤 𝓛 𝓜 𝓡 wired T laws copy clone dict met =
     let ℓ : NamedLft = record { mir = named 1; lft = κw } in let loan = record plane { ghost_name = δ } in
     let lowered = (lowers 𝓛 𝓜 𝓡 T laws of_rows ℓ).lowered in
     lands_as ! refl refl typed.0 $ sets ! (of_opd ! (get ! refl)) refl typed.0 $
-    -- how it ends: the row that was drawn, if any, is put back as it is filled
+    -- The final state: the row that was taken, if any, is put back after it was filled.
     let change = λ (row : List T.Denot). replicate (length row) value in let last = put_back Back change
     (item_from Back table) (remaining_after Back table) in
     let Puts : RowsMut T.Denot → Item 𝓤 = λ left. raw (Put 𝓛 T of_rows Back change w left) in
@@ -79,7 +79,7 @@ fill_last_row_spec 𝓤 𝓛 𝓜 𝓡 wired T laws copy clone dict met =
     ‵ (LendsRows item loan w) ∷ Kept_by 𝓛 T α δ κ κT q plane ∷ raw
     (Back_to 𝓛 α κT (Share.left qT)) ∷
     holding 𝓛 En []) (runs 𝓣.C 𝓣.Λ En (after 6 function.body) (at_ret En Post)) = λ left fewer.
-    -- the law of the iterator is called
+    -- The law of the iterator is called.
     calls ! (3 ∷ []) run (law 𝓛 𝓜 𝓡 T of_rows).0 (law 𝓛 𝓜 𝓡 T of_rows).1
     (law_met.met 𝓤 𝓛 𝓜 𝓡 (code.calls-v_frame_plane::laws::held_rows_are_the_table 𝓡.env wired) T laws)
     (((κT, tt), (rT, tt), tt, tt, tt), tt) (asks_that 𝓤 inT) refl (no_more !) (λ r us. ‵ (Law T of_rows) ∷ [])
@@ -98,14 +98,14 @@ fill_last_row_spec 𝓤 𝓛 𝓜 𝓡 wired T laws copy clone dict met =
     nothing ! $ feq_i ! (List Val) (vunit ∷ []) (vunit ∷ []) refl $ ends ! (4 ∷ 2 ∷ 3 ∷ 1 ∷ 0 ∷ []) ended stayed c y
     vunit tt (new, (tt, tt))
     (tt, (tt, tt)) refl $ tells ! (told_of.table ∙ filled.0) $ told ! (λ k. (told_of.geometry k, told_of.border k))))) in
-    -- [the iterator; how the plane ends; the tokens of κw and κT; the plane's lender; the way back; the value; the
-    -- locals]. A row is drawn
+    -- Context: [the iterator; how the plane ends; the tokens of κw and κT; the plane's lender; the way back; the
+    -- value; the locals]. A row is taken.
     sets ! (addr ! (from ! (stop !))) refl (tt, tt) $ take_at ! 3 $ move ! (0 ∷ 1 ∷ 3 ∷ 4 ∷ []) $
     draws_item 𝓛 𝓜 𝓡 T laws Back of_rows _ _ _ _ _ _ _ _ !
     (of_walks.next_back.Met.met 𝓤 𝓛 𝓜 𝓡 (code.calls-v_frame_plane::rows_mut::RowsMut::next_back 𝓡.env wired) T laws) κw
     κT qw rT inside inT
     (spot_of 𝓤 𝓛.H En 3).0 (l 3) w refl (λ i j m. get ! refl)
-    -- where there is none, the iterator is dropped as it is
+    -- If there is no row, the iterator is dropped unchanged.
     (λ left none. let drawn = last_drawn rows_left w None left none in give_at ! 3 $ lands_as ! refl refl
     (tt, (record { fits = lit< tt }, tt)) $
     first ! $ takes_other ! (get_tag ! (vrt ! refl (fld ! refl (stop !))) (whole !)) $ skips ! $ exec ! 𝓣.C 𝓣.Λ En
@@ -114,7 +114,7 @@ fill_last_row_spec 𝓤 𝓛 𝓜 𝓡 wired T laws copy clone dict met =
     -- way back; the value; the locals]
     move ! (7 ∷ 2 ∷ []) $ drop ! $ use1 𝓛 (Puts left) (none_taken 𝓛 T Back of_rows change w left (sym drawn.0)) $
     forget_but ! En [] refl $ finish left drawn.1)
-    -- where there is one, it is filled
+    -- If there is a row, it is filled.
     (λ row left steps is. let drawn = last_drawn rows_left w (Some row) left steps in let row_fits = is.0.1.0 in
     give_at ! 3 $ lands_as ! refl refl (tt, (record { fits = lit< tt }, ((tt, (record { fits = row_fits }, tt)), tt))) $
     first ! $ takes_arm ! (get_tag ! (vrt ! refl (fld ! refl (stop !))) (whole !)) $

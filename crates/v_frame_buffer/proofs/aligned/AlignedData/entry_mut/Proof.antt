@@ -1,5 +1,5 @@
--- `entry_mut` lends an entry of the slice that `as_mut_slice` lends. Rattle follows no loan of a loan, so this proof
--- follows the code. Assumes `Logic`.
+-- `entry_mut` lends an entry of the slice that `as_mut_slice` lends. Rattle cannot follow a loan of a loan, so this
+-- hand-written proof follows the code. Assumes `Logic`.
 use Rattle.v_frame_buffer.proofs.Steps.{◌≡◌, ◌<◌, List, [], ◌∷◌, length, ℕ, Some, w64, refl, sym, ap, ◌∙◌, proved, id⊢}
 use Rattle.v_frame_buffer.proofs.Steps.{fact, tables, Array, usize, yes, no, shows, param, layouts, uint_vals}
 use Rattle.v_frame_buffer.proofs.Steps.{uint_Tells, MutRef, mut_vals, Valss, types_at, mut_Tells, plain, MutSlice}
@@ -19,7 +19,7 @@ use Rattle.v_frame_buffer.specs.contracts.aligned.AlignedData.entry_mut
 use Rattle.v_frame_buffer.proofs.aligned.AlignedData.entry_mut.Statement.{statement}
 use Rattle.v_frame_buffer.proofs.aligned.AlignedData.entry_mut.Code as code
 
--- a list with an entry set is as long as before, so nothing is cut off it or added
+-- Setting an entry keeps the length of a list, so the list is neither cut nor extended.
 same_length : {X : Type 0} (ys xs : List X) (k : ℕ) → ys ≡ xs → (λ x. refill (length xs) xs (slice_set ys k x)) ≡
     slice_set xs k
 same_length ys xs k same i x =

@@ -1,4 +1,4 @@
--- `slice` shows the entries that the `&` to the cells reaches. Assumes `Logic`.
+-- `slice` returns the entries that the `&` to the cells reaches. Assumes `Logic`.
 use Rattle.v_frame_buffer.proofs.Steps.{◌≡◌, refl, sym, ap, ◌∙◌, ◌+◌, ◌*◌, ◌^◌, ◌<◌, arith, List, [], ◌∷◌, length}
 use Rattle.v_frame_buffer.proofs.Steps.{a_type, named, w64, inst_fn, Val, id⊢, Lft, Fml, tables, ‵, at_ret, ◌$◌, ! }
 use Rattle.v_frame_buffer.proofs.Steps.{keep, drop, fsplit, fjoin, feq_i, rewrite, whole, sub, agg, stop, fld, of_opd}

@@ -1,5 +1,5 @@
--- `slice_mut` lends a part of the entries as a slice, and the cells end with what that shows last in the part's place.
--- Assumes `Logic`.
+-- `slice_mut` lends a part of the entries as a slice. The final cells have the final value of the slice in place of
+-- this part. Assumes `Logic`.
 use Rattle.v_frame_buffer.proofs.Steps.{◌≡◌, refl, sym, ap, ◌∙◌, ◌+◌, ◌-◌, ◌*◌, ◌^◌, ◌<◌, ◌≤◌, arith, List, [], ◌∷◌}
 use Rattle.v_frame_buffer.proofs.Steps.{length, take, list_drop as drop, vint, length-drop, a_type, named, w64, inst_fn}
 use Rattle.v_frame_buffer.proofs.Steps.{vptr, id⊢, fat, flft, full_share, tables, ‵, ◌⊛◌, some, later, at_ret, ◌$◌, ! }

@@ -1,4 +1,4 @@
--- `write_next` makes the first place of the room an entry after the others. Assumes `Logic`.
+-- `write_next` turns the first uninitialized place into an entry after the others. Assumes `Logic`.
 use Rattle.v_frame_buffer.proofs.Steps.{◌≡◌, refl, sym, ap, ◌∙◌, ℕ, ◌+◌, ◌-◌, ◌*◌, ◌^◌, ◌<◌, arith, List, [], ◌∷◌, ◌++◌}
 use Rattle.v_frame_buffer.proofs.Steps.{length, a_type, inst_fn, Val, vptr, full_share, SProp, id⊢, fat, tables, ‵}
 use Rattle.v_frame_buffer.proofs.Steps.{prop, ◌⊛◌, at_ret, ◌$◌, !, move, keep, split, use1, use2, fsplit, fsplit3}
@@ -43,7 +43,7 @@ write_next_spec 𝓤 𝓛 𝓜 𝓡 wired T L =
     let κs = y.0.0 in let a = y.0.3 in let vss = y.0.4 in let d = a.0.now in let xs = d.items in let place = a.1.1.0 in
     let x = a.1.1.1.0 in
     let rb = a.0.ref_ptr.0 in let ro = a.0.ref_ptr.1 in let Post : Val → SProp 𝓤 = (walk_of 𝓛 En stayed c).post y in
-    -- x is one machine value v
+    -- x has a single machine value v.
     let one = one_of (record { row = T; laws = L }) vss.1.1.1.0 ((LR.lawful 𝓛).typed x vss.1.1.1.0 are.1.1.1.0) in let
     v = one.0 in let good = one.2 in
     let base_is = (lowers R LR).val_is a.1.0 vss.1.0 are.1.0 in
