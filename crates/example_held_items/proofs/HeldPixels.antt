@@ -85,6 +85,6 @@ module _ {M : Type 1} {𝓤 : Ura M} {𝓛 : Logic 𝓤} {K : Type 0} {Γ : List
       assigns t (reads _ _ _ _ _) (finds _ _ _ _ _) (store t 0 refl ok) $
       use1 𝓛 (‵ (cell_at full_share item.mir (copy.val x ∷ []) b o))
       (𝓛.laws.at_raw full_share (layout T) b o (copy.val x)) $
-      -- [its cell; the open borrow, in three; what it owns]
+      -- Context: [its cell; the open borrow, in three parts; its resources]
       move t (0 ∷ 4 ∷ []) $ closes t tt item x (copy.val x ∷ []) b o $ feq_i t (List Val) (mut_vals pixel)
       (mut_vals pixel) refl $ fjoin3 t $ k)

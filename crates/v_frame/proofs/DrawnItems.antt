@@ -65,7 +65,7 @@ module _ {X D : Type 0} (side_of : D → Side) (make : D → X → X) where
   abbrev Back_in_turn : List X → List D → List X → List X
   Back_in_turn = put_back_in_turn side_of make
 
-  -- The list after calls have put back all items that remained before them.
+  -- The list after the items of all calls are put back. The remaining items are unchanged.
   abbrev All_back : List X → List D → List X
   All_back items draws = Back_in_turn items draws (remaining_in_turn items (map side_of draws))
 
@@ -111,7 +111,7 @@ module _ {X D : Type 0} (side_of : D → Side) (make : D → X → X) where
       sym (simp append-nil at (put_back_between [] items [] [] draws (record { from_front = refl; from_back = refl })))
 
   module _ {B : Type 0} (f : X → B) where
-    -- Calls whose changes do not show in f.
+    -- A call that changes an item without changing its value under f.
     abbrev pub Keeps : D → Type 0
     Keeps draw = (item : X) → f (make draw item) ≡ f item
 
@@ -136,7 +136,7 @@ pub rows_as_long : {T : Type 0} (rows : List (List T)) (draws : List (RowDraw T)
 rows_as_long rows draws = kept_after side_of_row row_written length rows [] draws
     (λ k d h row. length-overwritten_row row (get_or draws k d).writes)
 
--- The items that remain after one more call of a list, given by the number of the draw.
+-- The items that remain after the draw with index i.
 pub nth_left : {X D : Type 0} (side_of : D → Side) (items : List X) (draws : List D) (i : ℕ) (h : i < length draws)
     (left more : List X) →
     left ≡ remaining_in_turn items (map side_of (take i draws)) → more ≡ remaining_after (side_of (nth_of draws i h))

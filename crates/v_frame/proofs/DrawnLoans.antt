@@ -48,7 +48,7 @@ module _ {M : Type 1} {𝓤 : Ura M} (𝓛 : Logic 𝓤) (T : RattleType) where
   takes Front k change old new x xs same = record { apply = λ a says. says (change x.now, xs) }
   takes Back k change old new x xs same = record { apply = λ a says. says (change x.now, xs) same }
 
-  -- The item keeps the value that was written to it.
+  -- The final value of the item is its changed value.
   pub item_taken : (side : Side) (k : Kind) (change : Entry T k → Entry T k) (old new : Walk T k)
       (x : MutBor (Entry T k)) →
       item_from side (left T k old) ≡ Some x.now →

@@ -74,7 +74,7 @@ module _ {M : Type 1} {𝓤 : Ura M} {𝓛 : Logic 𝓤} {K : Type 0} {Γ : List
         plane.now new) $ await t z $
         split t $ move t (2 ∷ 3 ∷ []) $ use2 𝓛 (‵ (flft κT qT)) (𝓛.lfts.lft_join κT qT) $ k)
 
-  -- [how the plane ends; the tokens of its lifetime and of κT; what its lender keeps; the way back]
+  -- Context: [how the plane ends; the tokens of its lifetime and of κT; the lender's part; the way back]
   pub table_back : K → Soaks G → (T : RattleType) (α δ : ℕ) (κ κT : Lft) (q qT : Share)
       (plane : MutBor (Raster T.Denot)) (table : List (List T.Denot)) →
       ((new : Raster T.Denot) → WritesTable plane.now new table → Seq K 𝓛 (‵ (flft κT qT) ∷ Owned 𝓛 T κ
@@ -85,7 +85,7 @@ module _ {M : Type 1} {𝓤 : Ura M} {𝓛 : Logic 𝓤} {K : Type 0} {Γ : List
 
   module _ (t : K) (z : Soaks G) (R : RattleType) (one : R.mir ≡ lone R.mir ∷ []) (τ : Ty)
       (same : raw_ty τ ≡ raw_ty (lone R.mir)) (κ : Lft) (q : Share) where
-    -- [what is lent; the tokens of the loan and of κ; what its lender keeps; the way back]
+    -- Context: [the loan; the tokens of the loan and of κ; the lender's part; the way back]
     pub lends_walk : (x : R.Denot) (b o : ℕ) (v : Val)
         → ((α γ : ℕ) → Seq K 𝓛 (‵ ((MutRef (named 0) (α ∷ κ) R).own_val
         (record { ref_ptr = (b, o); ghost_name = γ; now = x }) (vptr b o ∷ [])) ∷
@@ -104,7 +104,7 @@ module _ {M : Type 1} {𝓤 : Ura M} {𝓛 : Logic 𝓤} {K : Type 0} {Γ : List
         (fsep (fres γ (R.coded.code new)) said) ∷
         ‵ (flent (α ∷ κ) (Body (mem R) b o γ)) ∷ raw (Back 𝓛 α κ (Share.left q)) ∷ Γ) G
     walk_back α γ b o new v spelled = step (λ k. move t (0 ∷ 4 ∷ []) $ lft_over t z α κ (Share.left q) $
-        -- [the loan is over; both halves of the token of κ; the last value; what the lender keeps]
+        -- Context: [the loan is over; both halves of the token of κ; the last value; the lender's part]
         move t (1 ∷ 2 ∷ []) $ use2 𝓛 (‵ (flft κ q)) (𝓛.lfts.lft_join κ q) $ move t (2 ∷ []) $ fsplit t $ move t
         (3 ∷ 4 ∷ 0 ∷ []) $
         loans.comes_back t z R one τ same (α ∷ κ) γ b o new v spelled $ move t (2 ∷ []) $ drop t $ k)

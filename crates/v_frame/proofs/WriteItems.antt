@@ -189,7 +189,7 @@ module _ {M : Type 1} {𝓤 : Ura M} (𝓛 : Logic 𝓤) (𝓜 : Model 𝓤 𝓛
         are.1.0.0.1.1 in
         let Each : Fml = fhide (elements_shared Read draws bd od κd) in
         opened 𝓛 En₀.signature κs qs a (mut_vals plane, (shr_slice_vals a.1.0, tt)) (κT ⊑ T.lives) (λ inT.
-        -- [the tokens of κ, κd and κT; the plane; the draws]
+        -- Context: [the tokens of κ, κd and κT; the plane; the draws]
         move ! (4 ∷ []) $ fsplit ! $ drop ! $ enter ! _ _ _ _ _ $ alloc_all ! (λ l.
         pass_all ! refl ((tt, tt), ((tt, (tt, (record { fits = n_fits }, tt))), tt)) $ let En = env function.locals l in
         sets ! (addr ! (through ! refl (stop !))) refl (tt, tt) $ move ! (4 ∷ 1 ∷ 3 ∷ []) $
@@ -201,8 +201,8 @@ module _ {M : Type 1} {𝓤 : Ura M} (𝓛 : Logic 𝓤) (𝓜 : Model 𝓤 𝓛
         (lowers 𝓛 𝓜 𝓡 T laws k ℓ).lowered in
         let spelled = (lowers 𝓛 𝓜 𝓡 T laws k ℓ).val_is in
         lands_as ! refl refl typed.0 $ sets ! (of_opd ! (get ! refl)) refl typed.0 $
-        -- [the iterator; how the plane ends; the tokens of κw and κT; the plane's lender; the way back; the draws; the
-        -- token of κd; the locals]
+        -- Context: [the iterator; how the plane ends; the tokens of κw and κT; the plane's lender; the way back; the
+        -- draws; the token of κd; the locals]
         let Shows : Item 𝓤 = ‵ (LendsBack T k loan w) in let Lender : Item 𝓤 = Kept_by 𝓛 T α δ κ κT q
         plane in
         let turning = turn k in let behind_loop = ends_so k in
@@ -238,8 +238,8 @@ module _ {M : Type 1} {𝓤 : Ura M} (𝓛 : Logic 𝓤) (𝓜 : Model 𝓤 𝓛
         let After : Out → SProp 𝓤 = after_block 𝓤 𝓛.H
         (after_seq 𝓤 𝓛.H (Wp 𝓤 𝓛.H 𝓣.C 𝓣.Λ En goes_on (Turned t)) (Turned t)) in
         let Then : Exits 𝓤 𝓛.H = any_q (after_seq 𝓤 𝓛.H (Wp 𝓤 𝓛.H 𝓣.C 𝓣.Λ En (drawn_by k) After) After) in
-        -- [what is put back; the iterator; the tokens of κw, κT and κd; the draws; what was put back; the rest; the
-        -- locals]
+        -- Context: [the items to put back; the iterator; the tokens of κw, κT and κd; the draws; the items put back;
+        -- the rest; the locals]
         let finish : (new : Walk T k) → left T k new ≡ remaining_after d.side (left T k walk) → Sq 𝓛
         (‵ (Taken new) ∷ ‵ (Walking.own_val new (low new ∷ [])) ∷
         ‵ (flft κw qw) ∷ ‵ (flft κT rT) ∷ ‵ (flft κd qd) ∷ ‵ Each ∷ ‵ (Puts T k (take i draws) w walk) ∷ Shows ∷ Lender
@@ -271,8 +271,8 @@ module _ {M : Type 1} {𝓤 : Ura M} (𝓛 : Logic 𝓤) (𝓜 : Model 𝓤 𝓛
         switches_on ! (get_tag ! (vrt ! refl (fld ! refl (stop !))) (whole !)) $ exec ! 𝓣.C 𝓣.Λ En
         (arm_body 1 (written_by k)) (any_q After) $
         skips ! $ exec ! 𝓣.C 𝓣.Λ En goes_on (any_q (Turned t)) $
-        -- [the iterator; the token of κw; what is lent; the tokens of κT and κd; nothing; the draw; the draws; what was
-        -- put back; the rest]
+        -- Context: [the iterator; the token of κw; the loan; the tokens of κT and κd; nothing; the draw; the draws;
+        -- the items put back; the rest]
         move ! (5 ∷ 6 ∷ 2 ∷ []) $ drop ! $ drop ! $
         rewrite ! 0 (λ (z : Option (MutBor (Entry T k))). ‵ (Lends T k d.side walk z new)) is_none refl $
         use1 𝓛 (‵ (Taken new)) (none_taken 𝓛 T d.side k (made T k d) walk new
@@ -286,8 +286,8 @@ module _ {M : Type 1} {𝓤 : Ura M} (𝓛 : Logic 𝓤) (𝓜 : Model 𝓤 𝓛
         (tt, item_fits) $
         lends_item κw k x item_fits l (vptr b o) (slice_val (bd, od) n) (low new) (vint w64 i) (vptr bd p) (vint w64 n)
         v $
-        -- [the item; the iterator; the token of κw; what is lent; the tokens of κT and κd; nothing; the draw; the
-        -- draws; what was put back; the rest]
+        -- Context: [the item; the iterator; the token of κw; the loan; the tokens of κT and κd; nothing; the draw;
+        -- the draws; the items put back; the rest]
         calls_last ! (2 ∷ 5 ∷ 4 ∷ 0 ∷ 7 ∷ []) run (changes 𝓛 𝓜 𝓡 T clone dict k).0 (changes 𝓛 𝓜 𝓡 T clone dict k).1
         changed (
           (
@@ -304,8 +304,8 @@ module _ {M : Type 1} {𝓤 : Ura M} (𝓛 : Logic 𝓤) (𝓜 : Model 𝓤 𝓛
         (λ u last. raw (fact 𝓤 (last.0 ≡ made T k d x.now)) ∷ []) (λ u last. id⊢ 𝓤 _)
         (λ z u last. feq_l ! (λ is_unit. heard ! _ (λ changed_so.
         lands_last ! refl (unit_fits is_unit) $ exec ! 𝓣.C 𝓣.Λ En goes_on (any_q (Turned t)) $
-        -- [the tokens of κw, κd and κT; how the item ends; nothing; the iterator; what is lent; nothing; the draws;
-        -- what was put back; the rest]
+        -- Context: [the tokens of κw, κd and κT; how the item ends; nothing; the iterator; the loan; nothing; the
+        -- draws; the items put back; the rest]
         move ! (4 ∷ 7 ∷ 3 ∷ []) $ drop ! $ drop ! $ use1 𝓛 (‵ (Left T κw k x last.0)) (left_as T κw 𝓛 k x last.0) $
         rewrite ! 0 (λ (z : Entry T k). ‵ (Ends T k x z)) changed_so refl $
         rewrite ! 5 (λ (z : Option (MutBor (Entry T k))). ‵ (Lends T k d.side walk z new)) is_item refl $ move !
@@ -313,24 +313,25 @@ module _ {M : Type 1} {𝓤 : Ura M} (𝓛 : Logic 𝓤) (𝓜 : Model 𝓤 𝓛
         use2 𝓛 (‵ (Taken new)) (item_taken 𝓛 T d.side k (made T k d) walk new x
         (sym (ap option_copied_mut (sym is_item) ∙ gave.0))) $
         move ! (0 ∷ 4 ∷ 1 ∷ 3 ∷ 2 ∷ []) $ forget_but ! En (1 ∷ 2 ∷ 3 ∷ 4 ∷ 10 ∷ []) refl $ finish new gave.1)))))) in
-        -- [the iterator; what was put back; the tokens of κw, κT and κd; the draws; the rest; the locals]
+        -- Context: [the iterator; the items put back; the tokens of κw, κT and κd; the draws; the rest; the locals]
         move ! (5 ∷ []) $ lends_nth ! Read (draws_laws T k laws) (named 2) κd draws bd od i h $ read_twice ! (named 2)
         κd Read (draws_laws T k laws) ι $
-        -- [the draw, twice; the draws; the iterator; what was put back; the tokens of κw, κT and κd; the rest]
+        -- Context: [the draw, twice; the draws; the iterator; the items put back; the tokens of κw, κT and κd; the
+        -- rest]
         calls ! (7 ∷ 6 ∷ 0 ∷ []) run (asks 𝓛 𝓜 𝓡 T k).0 (asks 𝓛 𝓜 𝓡 T k).1 asked
         (((κd, (κT, tt)), (qd, (rT, tt)), (inw', tt), (ι, tt), (vptr bd p ∷ [], tt)), tt) (asks_that 𝓤 inT) refl
         (and_then ! (get ! refl) (no_more !)) (λ s us. raw (fact 𝓤 (s ≡ d.side)) ∷ []) (λ s us. id⊢ 𝓤 _)
         (λ u s us. move ! (1 ∷ []) $ heard ! _ (λ is_side.
-        -- [the side; the tokens of κd and κT; nothing; the draw; the draws; the iterator; what was put back; the token
-        -- of κw; the rest]
+        -- Context: [the side; the tokens of κd and κT; nothing; the draw; the draws; the iterator; the items put
+        -- back; the token of κw; the rest]
         by_side ! s u (λ is_front e. lands_as ! e refl (tt, (record { fits = lit< tt }, tt)) $ first ! $
         switches_on ! (get_tag ! (vrt ! refl (fld ! refl (stop !))) (whole !)) $ exec ! 𝓣.C 𝓣.Λ En (draws_by 16 ahead)
         Then $
         sets ! (addr ! (from ! (stop !))) refl (tt, tt) $ take_at ! 3 $ move ! (0 ∷ 6 ∷ 8 ∷ []) $
         lends_walk ! tt Walking refl τ refl κw qw walk (l 3) 0 (low walk)
         (λ β γ. let κc = β ∷ κw in let inw = meet_⊑_right (β ∷ []) κw in
-        -- [the iterator, lent; the tokens of κc and κw; its lender; the way back; the tokens of κd and κT; nothing; the
-        -- draw; the draws; what was put back; ..]
+        -- Context: [the lent iterator; the tokens of κc and κw; its lender; the way back; the tokens of κd and κT;
+        -- nothing; the draw; the draws; the items put back; ..]
         calls_last ! (1 ∷ 2 ∷ 6 ∷ 0 ∷ []) run (draws_of Front).0 (draws_of Front).1 first_drawn (
           (
             (κc, (κw, (κT, tt))),
@@ -345,8 +346,8 @@ module _ {M : Type 1} {𝓤 : Ura M} (𝓛 : Logic 𝓤) (𝓜 : Model 𝓤 𝓛
         (λ r us. from_front 𝓛 T k walk r us.0 d.side (sym is_side ∙ is_front)) (λ v r us.
         move ! (3 ∷ 4 ∷ 6 ∷ 7 ∷ 8 ∷ []) $ walk_back ! tt Walking refl τ refl κw qw β γ (l 3) 0 us.0 (low us.0)
         (λ z is. ap only (spelled us.0 (z ∷ []) is)) $ give_at ! 3 $
-        -- [the iterator; the token of κw; the item; what is lent; what is said; the tokens of κT and κd; nothing; the
-        -- draw; the draws; ..]
+        -- Context: [the iterator; the token of κw; the item; the loan; the clauses; the tokens of κT and κd; nothing;
+        -- the draw; the draws; ..]
         forget_but ! En (1 ∷ 2 ∷ 3 ∷ 4 ∷ 5 ∷ 10 ∷ []) refl $ writes v r us.0)))
         (λ is_back e. lands_as ! e refl (tt, (record { fits = lit< tt }, tt)) $ first ! $
         switches_on ! (get_tag ! (vrt ! refl (fld ! refl (stop !))) (whole !)) $ exec ! 𝓣.C 𝓣.Λ En (draws_by 17 behind)
@@ -379,8 +380,8 @@ module _ {M : Type 1} {𝓤 : Ura M} (𝓛 : Logic 𝓤) (𝓜 : Model 𝓤 𝓛
         -- The iterator is dropped, and the plane comes back with the final values of its items.
         move ! (0 ∷ 2 ∷ 7 ∷ []) $ use3 𝓛 (‵ (FinalItems T k walk (left T k walk)) ⊛ ‵ (EndsBy T k loan w))
         (by_law T 𝓛 k ℓ walk w (low walk ∷ []) loan begun) $ split ! $
-        -- [the final items; how the plane ends; the token of κT; what was put back; the tokens of κw and κd; the draws;
-        -- the plane's lender; the way back]
+        -- Context: [the final items; how the plane ends; the token of κT; the items put back; the tokens of κw and
+        -- κd; the draws; the plane's lender; the way back]
         let table = table_of plane.now in let first_shown = shown T k plane.now in let second = walk_leaves
         (side_of T k) (made T k) first_shown draws in
         let last = written T k table draws in

@@ -156,7 +156,7 @@ module _ {M : Type 1} {𝓤 : Ura M} (𝓛 : Logic 𝓤) where
           some (λ (ws : Lasts T κs a). ‵ (lasts T κs a ws) ⊛ raw (Says r ws))))) (id⊢ 𝓤 _) $
           await t z $ pick t (λ r. split t $ split t $ move t (2 ∷ []) $ pick t
           (λ ws. split t $ move t (2 ∷ 0 ∷ []) $ join t $ move t (2 ∷ 1 ∷ 0 ∷ []) $
-          -- [what is given; what is said; the tokens, and the last values]
+          -- Context: [the result; the clauses; the tokens, and the last values]
           let rest = last_values κs S.params T.kept a ws Γ in let after = tokens S.lifetimes κs x.0.1 rest in
           let entries = via 𝓤 _ (pop 𝓛 _ Γ) (both (tokens_are S.lifetimes κs x.0.1 rest)
           (last_values_are κs S.params T.kept a ws Γ)).apart in

@@ -6,7 +6,6 @@
 -- - comes_back: the loan is over, and the value is back with its changes.
 -- - opens_self: a `&mut` to self is opened.
 -- - at_one: a statement about each h with A h, used for one h.
--- h
 use Rattle.v_frame_buffer.proofs.Steps.{ℕ, ◌≡◌, List, [], ◌∷◌, refl, Lft, Share, fat, fauth, flent, flft, fobor, fobs}
 use Rattle.v_frame_buffer.proofs.Steps.{full_share, SProp, all, all_e, ent, sep, wand, apply∗, shows, cell_at, mem}
 use Rattle.v_frame_buffer.proofs.Steps.{RattleType, MutBor, MutRef, mut_vals, opens, peeks, Ty, named, Val, vptr, Ura}

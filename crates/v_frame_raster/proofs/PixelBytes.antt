@@ -8,7 +8,7 @@ pub length-bytes_from : (i n value : ℕ) → length (bytes_from i n value) ≡ 
 length-bytes_from i zero value = refl
 length-bytes_from i (suc n) value = ap suc (length-bytes_from (i + 1) n value)
 
--- The value of n bytes from byte i on lies between the weights of byte i and byte i + n.
+-- The weighted sum of n bytes from byte i on is the part of the value between the weights of byte i and byte i + n.
 value_from-bytes_from : (i n value : ℕ)
     → value_from i (bytes_from i n value) + 256 ^ (i + n) * (value / 256 ^ (i + n)) ≡ 256 ^ i * (value / 256 ^ i)
 value_from-bytes_from i zero value = rw (add-zero i) (omega arith)

@@ -78,7 +78,7 @@ module _ (R : RattleType) (d : (the_row R).Denot) (start : ℕ) where
           use2 𝓛 (‵ (Row (ws ++ rest) (from o))) (join_app 𝓛 (mem R) ws rest b (from o)) $ move ! (1 ∷ 0 ∷ []) $
           use2 𝓛 (‵ (Row new o)) (join_app 𝓛 (mem R) (take start xs) (ws ++ rest) b o) $
           rewrite ! 0 (λ (f : Fml). ‵ f) (sym (entries_are_cells R b new o)) refl $ move ! (1 ∷ []) $ fsplit3 ! $
-          -- [the room; the marker; its cell; the entries]
+          -- Context: [the uninitialized memory; the marker; its cell; the entries]
           rewrite ! 0 (λ (k : ℕ). ‵ (room_at R b (k * s + o) d.spare)) (sym long) refl $ move ! (3 ∷ 0 ∷ []) $ fjoin ! $
           flt_i ! ((length new + d.spare) * s) (2 ^ 63) (subst (λ k. (k + d.spare) * s < 2 ^ 63) (sym long) small) $
           fjoin ! $

@@ -40,7 +40,7 @@ module _ {T : Type 0} where
     count = rw (e, row_major-push rest row) (omega (arith, length-append (row_major rest) row));
   }
 
-  -- The number of its pixels and of the others still fits, and it fits if no row remains.
+  -- Taking a row keeps the pixels countable. So does a call for which no row remains.
   pub drawn_countable : {front back row : List T} {rows rest : List (List T)} → PixelsAreCountable front rows back →
       IsDrawn rows row rest →
       (begun left : List T) → length begun + length left ≤ length front + length row + length back → PixelsAreCountable

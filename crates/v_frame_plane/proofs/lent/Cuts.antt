@@ -114,7 +114,7 @@ module _ {M : Type 1} {𝓤 : Ura M} {𝓛 : Logic 𝓤} {K : Type 0} {Γ : List
       raw (fact 𝓤 (SameBelow x.now r.0.now n × TailFrom x.now r.1.now n)) ∷ ‵ (Joins (param 0 T) x r.0 r.1) ∷ [])
       (λ r ws. id⊢ 𝓤 _) (λ v r ws.
       fpick t (λ vss. fsplit t $ feq_l t (λ e. fsplit t $ move t (1 ∷ []) $ fsplit t $
-      -- [the back; nothing; the front; six facts; how the slice ends; the tokens; nothing, twice]
+      -- Context: [the back; nothing; the front; six facts; how the slice ends; the tokens; nothing, twice]
       peeks t Slice _ (shows 𝓛 Slice) r.1 vss.1.0 (λ two. rewrite t 0 (λ (us : List Val). ‵ (Slice.own_val r.1 us))
       two.0.0 refl $
       move t (2 ∷ []) $ peeks t Slice _ (shows 𝓛 Slice) r.0 vss.0

@@ -40,7 +40,7 @@ module _ {M : Type 1} {𝓤 : Ura M} (𝓛 : Logic 𝓤) (𝓜 : Model 𝓤 𝓛
         move ! (1 ∷ []) $ drop ! $ split ! $ move ! (1 ∷ []) $ drop ! $ split ! $
         enter ! _ _ _ _ _ $ alloc_all ! (λ l. pass_all ! refl tt $
         sets ! (of_opd ! (unit_lit !)) refl (tt, tt) $ returns ! (look_at ! 0 refl) $ free_all ! refl $
-        -- [the token of κT; nothing]
+        -- Context: [the token of κT; nothing]
         move ! (1 ∷ []) $ drop ! $ use0 𝓛 (‵ law) holds $
         suffices ! _ (ends_at 𝓛 En stayed clauses ((κs, qs, bounds, a, tt), g) vunit tt tt tt) $
         nothing ! $ feq_i ! (List Val) (vunit ∷ []) (vunit ∷ []) refl $ move ! (1 ∷ 0 ∷ []) $ join ! $ nothing ! $ move

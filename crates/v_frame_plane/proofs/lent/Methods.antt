@@ -150,12 +150,12 @@ module _ {M : Type 1} {𝓤 : Ura M} {𝓛 : Logic 𝓤} {K : Type 0} {Γ : List
       (κc, (κ, (κT, tt))) in
       let qs : Shares 3 = (share_within (Share.left q), (Share.right q, (qT, tt))) in
       let bounds : Bounds m κs = (in_c, (⊑_trans κc κ κT in_c inside, (inside, tt))) in
-      -- [self, lent; what its lender keeps; the token of the loan; the way back; the tokens of κ and κT]
+      -- Context: [the lent self; the lender's part; the token of the loan; the way back; the tokens of κ and κT]
       calls t (2 ∷ 4 ∷ 5 ∷ 0 ∷ []) run (ended m) (clauses m 𝓛) met
       ((κs, qs, bounds, (self, tt), (vptr b o ∷ [], tt)), tt) (asks_also 𝓤 inT holds) refl
       (and_then t (reads _ _ _) (no_more t)) (λ r ws. m.says ℓ old r ws.0 ∷ []) (λ r ws. id⊢ 𝓤 _)
       (λ v r ws. let new = ws.0 in
-      -- [what is given; what is said; the tokens of the loan, of κ and of κT; the last value; what the lender keeps;
+      -- Context: [the result; the clauses; the tokens of the loan, of κ and of κT; the last value; the lender's part;
       -- the way back]
       move t (2 ∷ 7 ∷ []) $ lft_over t tt α κ (Share.left q) $ move t (1 ∷ 4 ∷ []) $ use2 𝓛 (‵ (flft κ q))
       (𝓛.lfts.lft_join κ q) $

@@ -77,7 +77,7 @@ module _ {M : Type 1} {𝓤 : Ura M} {𝓛 : Logic 𝓤} {K : Type 0} {Γ : List
       r.1.ghost_name (put s)) ∷
       raw (fact 𝓤 (x.now ≡ put s r.0.now r.1.now)) ∷ []) (λ r ws. id⊢ 𝓤 _) (λ v r ws.
       fpick t (λ vss. fsplit t $ feq_l t (λ e. fsplit t $ move t (1 ∷ []) $ fsplit t $
-      -- [the rest; nothing; the pixel; how the slice ends; a fact; the tokens; nothing]
+      -- Context: [the rest; nothing; the pixel; how the slice ends; a fact; the tokens; nothing]
       peeks t Slice _ (shows 𝓛 Slice) r.1 vss.1.0 (λ two. rewrite t 0 (λ (us : List Val). ‵ (Slice.own_val r.1 us))
       two.0.0 refl $
       move t (2 ∷ []) $ peeks t Pixel _ (shows 𝓛 Pixel) r.0 vss.0
@@ -122,7 +122,7 @@ module _ {M : Type 1} {𝓤 : Ura M} (𝓛 : Logic 𝓤) (T : RattleType) where
         each ! (λ held. wand 𝓤 (Both held) (sem 𝓛 (FinalPixels T old (held.0 ∷ held.1)))) (λ held.
         assume ! (‵ (PixelEndsAs T pixel.ghost_name held.0) ⊛ ‵ (FinalPixels T new held.1)) $ split ! $
         move ! (1 ∷ []) $ fpick ! (λ ps. fpick ! (λ are. fsplit3 ! $
-        -- [the front; the rows; the back; the pixel; how the front was cut]
+        -- Context: [the front; the rows; the back; the pixel; how the front was cut]
         move ! (4 ∷ 3 ∷ 0 ∷ []) $ use3 𝓛 (‵ (EndsAs T old.front.ghost_name (held.0 ∷ ps.front)))
         (ends_put ◌∷◌ old.front.ghost_name pixel.ghost_name rest.ghost_name held.0 ps.front) $
         move ! (0 ∷ 1 ∷ 2 ∷ []) $ fjoin3 ! $
@@ -142,7 +142,7 @@ module _ {M : Type 1} {𝓤 : Ura M} (𝓛 : Logic 𝓤) (T : RattleType) where
         each ! (λ held. wand 𝓤 (Both held) (sem 𝓛 (FinalPixels T old (held.1 ++ held.0 ∷ [])))) (λ held.
         assume ! (‵ (PixelEndsAs T pixel.ghost_name held.0) ⊛ ‵ (FinalPixels T new held.1)) $ split ! $
         move ! (1 ∷ []) $ fpick ! (λ ps. fpick ! (λ are. fsplit3 ! $
-        -- [the front; the rows; the back; the pixel; how the back was cut]
+        -- Context: [the front; the rows; the back; the pixel; how the back was cut]
         move ! (4 ∷ 3 ∷ 2 ∷ []) $ use3 𝓛 (‵ (EndsAs T old.back.ghost_name (ps.back ++ held.0 ∷ [])))
         (ends_put (put at_back) old.back.ghost_name pixel.ghost_name rest.ghost_name held.0 ps.back) $
         move ! (1 ∷ 2 ∷ 0 ∷ []) $ fjoin3 ! $

@@ -89,7 +89,7 @@ module _ {M : Type 1} {𝓤 : Ura M} (𝓛 : Logic 𝓤) (T : RattleType) where
       each ! (λ (second : List T.Denot). wand 𝓤 (sem 𝓛 (FinalPixels T new second)) (sem 𝓛 (FinalPixels T old second)))
       (λ second.
       assume ! (‵ (FinalPixels T new second)) $ fpick ! (λ parts. fpick ! (λ are. let to = goes second parts are in
-      -- [the parts; the end; what is given]
+      -- Context: [the parts; the end; the result]
       move ! (2 ∷ 1 ∷ 0 ∷ []) $ use3 𝓛 (‵ (PartsEnd T old (turn parts))) to.1 $
       use1 𝓛 (‵ (FinalPixels T old second)) (of_parts 𝓛 T old second (turn parts) to.0) $ done !)))
 
@@ -119,7 +119,7 @@ module _ {M : Type 1} {𝓤 : Ura M} (𝓛 : Logic 𝓤) (T : RattleType) where
             },
             qed 𝓛 (‵ (TakesFirstRow T old.rows rows row) ∷ ‵ (Ends old.front []) ∷ ‵ (PartsEnd T new parts) ∷ []) ∵
                 move ! (2 ∷ []) $ fsplit3 ! $
-                -- [the row; the rows; the back; what a call leaves; the old front]
+                -- Context: [the row; the rows; the back; the effect of the call; the old front]
                 move ! (3 ∷ 0 ∷ 1 ∷ []) $ use3 𝓛 (‵ (FinalRows T old.rows (parts.front ∷ parts.rows)))
                 (at_one 𝓛 Both (λ held. sem 𝓛 (FinalRows T old.rows (held.0 ∷ held.1))) (parts.front, parts.rows)) $
                 move ! (2 ∷ 0 ∷ 1 ∷ []) $ fjoin3 ! $ done !,
@@ -151,7 +151,7 @@ module _ {M : Type 1} {𝓤 : Ura M} (𝓛 : Logic 𝓤) (T : RattleType) where
                 use1 𝓛 (raw (Gives held)) (all_e 𝓤 (λ (same : length held.1 ≡ length Left). Gives held)
                 (same_count parts.rows Left are.rows)) $
                 move ! (2 ∷ []) $ fsplit3 ! $
-                -- [the front; the rows; the row; what a call leaves; the old back]
+                -- Context: [the front; the rows; the row; the effect of the call; the old back]
                 move ! (2 ∷ 1 ∷ []) $ join ! $ move ! (0 ∷ 2 ∷ []) $
                 use2 𝓛 (‵ (FinalRows T old.rows (parts.rows ++ parts.back ∷ []))) (apply∗ 𝓤 (Both held) _) $
                 move ! (1 ∷ 0 ∷ []) $ fjoin3 ! $ done !,
@@ -185,7 +185,8 @@ module _ {M : Type 1} {𝓤 : Ura M} (𝓛 : Logic 𝓤) (T : RattleType) where
             },
             qed 𝓛 (‵ (KeepsRows T old.rows rows) ∷ ‵ (Ends old.front []) ∷ ‵ (PartsEnd T new parts) ∷ []) ∵ move !
                 (2 ∷ []) $ fsplit3 ! $
-                -- [the old back; the rows; what was taken from; what the rows keep; the old front]
+                -- Context: [the old back; the rows; the slice taken from; the fact that the rows are kept; the old
+                -- front]
                 move ! (3 ∷ 1 ∷ []) $ use2 𝓛 (‵ (FinalRows T old.rows [])) (rows_kept parts.rows are.rows) $ keep !
                 (3 ∷ 0 ∷ 1 ∷ []) $ fjoin3 ! $ done !,
           ))
@@ -203,7 +204,8 @@ module _ {M : Type 1} {𝓤 : Ura M} (𝓛 : Logic 𝓤) (T : RattleType) where
             },
             qed 𝓛 (‵ (KeepsRows T old.rows rows) ∷ ‵ (Ends old.back []) ∷ ‵ (PartsEnd T new parts) ∷ []) ∵ move !
                 (2 ∷ []) $ fsplit3 ! $
-                -- [what was taken from; the rows; the old front; what the rows keep; the old back]
+                -- Context: [the slice taken from; the rows; the old front; the fact that the rows are kept; the old
+                -- back]
                 move ! (3 ∷ 1 ∷ []) $ use2 𝓛 (‵ (FinalRows T old.rows [])) (rows_kept parts.rows are.rows) $ keep !
                 (2 ∷ 0 ∷ 3 ∷ []) $ fjoin3 ! $ done !,
           ))

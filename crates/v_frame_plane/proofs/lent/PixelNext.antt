@@ -70,7 +70,7 @@ module _ {M : Type 1} {𝓤 : Ura M} {𝓛 : Logic 𝓤} {K : Type 0} {Γ : List
       Bare refl walk b o
       (fact_i 𝓤 _ (emp 𝓤) some_left) reads (λ v pixel new. move t (5 ∷ []) $ split t $ move t (1 ∷ []) $ heard t _
       (λ steps.
-      -- [what is taken; self's cell; what it owns; the tokens of κ and κT; the pixel]
+      -- Context: [the taken slice; the cell of self; its resources; the tokens of κ and κT; the pixel]
       move t (5 ∷ []) $ spelt t (MutRef (named 1) κ (param 0 T)) (λ r. only (mut_vals r)) (λ r vs is. is.0) pixel v
       (λ is _.
       regoal t (λ (u : Val). lands C Λ E d u rest p) is refl $ k pixel new steps)))
@@ -178,7 +178,7 @@ module _ {M : Type 1} {𝓤 : Ura M} (𝓛 : Logic 𝓤) (𝓜 : Model 𝓤 𝓛
       move ! (0 ∷ 1 ∷ 2 ∷ 3 ∷ 4 ∷ []) $ closes ! tt Row w (lowered w ∷ []) b o $
       sets ! (agg ! (and_then ! (lit ! tt) (no_more !))) refl (tt, (record { fits = lit< tt }, tt)) $
       returns_within ! Post refl (look_at ! 0 refl) $ free_all ! refl $
-      -- [self, in two; the token of κ; those of κa and κT; that the pixels are kept]
+      -- Context: [self, in two parts; the token of κ; those of κa and κT; the fact that the pixels are kept]
       use0 𝓛 (‵ ((Opt.the_row Pixel).own_val None (live 0 (of_list []) ∷ []))) (none_of 𝓛 Pixel) $
       gives ! m κs qs bounds self (live 0 (of_list [])) None w $
       frame ! $ tells ! (yields_none h w s left (begun (eqb→eq (length (near s w).now) 0 empty))) $ told !
@@ -205,21 +205,20 @@ module _ {M : Type 1} {𝓤 : Ura M} (𝓛 : Logic 𝓤) (𝓜 : Model 𝓤 𝓛
       use1 𝓛 (‵ (fat full_share RowsBare b (o + rows_offset) (rows_lowered h.rows)) ⊛
       raw (Around 𝓛 b o RowsBare rows_offset (λ u. self_of (slice_of h.front) u (slice_of h.back))))
       (rows_out 𝓛 b o (slice_of h.front) (rows_lowered h.rows) (slice_of h.back)) $ split ! $
-      -- [the rows' cell; the way back; this end; what the rows own; the other end; the open borrow; the tokens of κa
-      -- and κT; the locals]
+      -- Context: [the rows' cell; the way back; this end; the resources of the rows; the other end; the open borrow;
+      -- the tokens of κa and κT; the locals]
       move ! (0 ∷ 3 ∷ 8 ∷ 9 ∷ []) $ calls_self ! run (row_draw 𝓤 T s) draw_meets κa κT qa qT aT inT
       (rows_lowers ℓ item (param_laws 0 T laws)) refl RowsBare
       refl h.rows b (o + rows_offset) (id⊢ 𝓤 _) (λ _ _ _. get ! refl) (λ v r rows. let ns = rows_lowered rows in
-      -- [the rows' cell; what they own; the tokens of κa and κT; the row; what the call says; the way back; this end;
-      -- the other end; the open borrow; the
-      -- locals]
+      -- Context: [the rows' cell; their resources; the tokens of κa and κT; the row; the clauses of the call; the way
+      -- back; this end; the other end; the open borrow; the locals]
       move ! (0 ∷ 6 ∷ []) $ use2 𝓛 (‵ (fat full_share Bare b o (self_of (slice_of h.front) ns (slice_of h.back))))
       (field_in 𝓛 b o RowsBare rows_offset (λ u. self_of (slice_of h.front) u (slice_of h.back)) ns) $
       rewrite ! 0 (λ u. ‵ (fat full_share Bare b o u)) (by_sides s h ns) refl $
       move ! (5 ∷ []) $ split3 ! $ move ! (1 ∷ []) $ heard ! _ (λ steps. move ! (1 ∷ []) $ drop ! $ move ! (6 ∷ []) $
       use1 𝓛 (‵ (EndsAs item x.ghost_name x.now)) (dropped 𝓛 item (named 1) κa x _) $
-      -- [how this end ends; what the call leaves; self's cell; what the rows own; the tokens of κa and κT; the row; the
-      -- other end; the open borrow; the locals]
+      -- Context: [how this end ends; the effect of the call; the cell of self; the resources of the rows; the tokens
+      -- of κa and κT; the row; the other end; the open borrow; the locals]
       move ! (6 ∷ []) $ by_row ! T κa r v
       -- If there is no row, the begun row of the other end is taken over here.
       (λ gone out. let few = no_rows s h.rows rows (subst (λ r. YieldsRow s h.rows r rows) gone steps) in
@@ -231,17 +230,15 @@ module _ {M : Type 1} {𝓤 : Ura M} (𝓛 : Logic 𝓤) (𝓜 : Model 𝓤 𝓛
       move ! (2 ∷ []) $ use1 𝓛 (‵ (fat full_share word b (o + offset (other s)) (slice_of y)) ⊛
       raw (Around 𝓛 b o word (offset (other s)) (λ u. whole_by s (slice_of x) ns u)))
       (far_out 𝓛 b o (slice_of x) ns (slice_of y) s) $ split ! $
-      -- [the other end's cell; the way back; how this end ends; what the call leaves; what the rows own; the tokens of
-      -- κa and κT; the other end; the open
-      -- borrow; the locals]
+      -- Context: [the other end's cell; the way back; how this end ends; the effect of the call; the resources of the
+      -- rows; the tokens of κa and κT; the other end; the open borrow; the locals]
       move ! (0 ∷ 7 ∷ 5 ∷ []) $ calls_take ! run 𝓜.mem 𝓡.returns T κa (take_meets κa inA) qa y b (o + offset (other s))
       inA
       (λ β δ. and_then ! (get ! refl) (no_more !)) (λ e empty.
       lands_as ! refl refl (slice_fits far_fits) $
       let new = taken h rows e empty few.0 few.1 s in let left = whole_by s (slice_of x) ns (slice_val e.ref_ptr 0) in
-      -- [the other end's cell; what is left there; the other end; the token of κa; the way back; how this end ends;
-      -- what the call leaves; what the rows own;
-      -- the token of κT; the open borrow; the locals]
+      -- Context: [the other end's cell; the value left there; the other end; the token of κa; the way back; how this
+      -- end ends; the effect of the call; the resources of the rows; the token of κT; the open borrow; the locals]
       move ! (0 ∷ 4 ∷ []) $ use2 𝓛 (‵ (fat full_share Bare b o left))
       (field_in 𝓛 b o word (offset (other s)) (λ u. whole_by s (slice_of x) ns u)
       (slice_val e.ref_ptr 0)) $
@@ -254,9 +251,8 @@ module _ {M : Type 1} {𝓤 : Ura M} (𝓛 : Logic 𝓤) (𝓜 : Model 𝓤 𝓛
       (sym empty) refl $
       rewrite ! 1 (λ (xs : List T.Denot). ‵ ((MutSlice (named 1) κa item).own_val e
       (slice_val e.ref_ptr (length xs) ∷ []))) (sym empty) refl $
-      -- [self's cell; what is left; the other end; the token of κa; how this end ends; what the call leaves; what the
-      -- rows own; the token of κT; the open
-      -- borrow; the locals]
+      -- Context: [the cell of self; the new iterator; the other end; the token of κa; how this end ends; the effect
+      -- of the call; the resources of the rows; the token of κT; the open borrow; the locals]
       move ! (4 ∷ 5 ∷ []) $ fjoin ! $ use1 𝓛 (‵ (KeepsPixels item h new))
       (keeps_taken 𝓛 item h rows e empty few.0 few.1 s none) $
       move ! (3 ∷ 5 ∷ 2 ∷ 1 ∷ []) $ joins_by ! s ℓ T b o y rows e (taken_countable h rows e empty few.0 few.1 s) $
@@ -270,8 +266,8 @@ module _ {M : Type 1} {𝓤 : Ura M} (𝓛 : Logic 𝓤) (𝓜 : Model 𝓤 𝓛
       move ! (1 ∷ 2 ∷ []) $ fjoin ! $ use1 𝓛 (‵ (KeepsPixels item h new)) (keeps_begun 𝓛 item h rows row s is none) $
       let left = whole_by s (slice_of x) ns (slice_of y) in
       move ! (2 ∷ []) $ use1 𝓛 (‵ (fat full_share (Named ℓ item) b o left)) (as_named 𝓛 b o ℓ item left) $
-      -- [self's cell; what the iterator keeps; the row; what the rows own; the tokens of κa and κT; the other end; the
-      -- open borrow; the locals]
+      -- Context: [the cell of self; the fact that the pixels are kept; the row; the resources of the rows; the tokens
+      -- of κa and κT; the other end; the open borrow; the locals]
       lands_as ! out refl (tt, (record { fits = lit< tt }, ((tt, (record { fits = row_fits }, tt)), tt))) $
       first ! $ switches_on ! (get_tag ! (vrt ! refl (fld ! refl (stop !))) (whole !)) $
       exec ! 𝓣.C 𝓣.Λ En drawn (after refilled Within) $

@@ -50,7 +50,7 @@ module _ {M : Type 1} {𝓤 : Ura M} (𝓛 : Logic 𝓤) (T : RattleType) where
         let entries : before.now ++ (held.0 ++ rest) ≡ entries_with old (held.0 ∷ held.1) =
         rw (cut.before_is, behind_all old before at row behind more at_front cut)
         (with_first_row old.start old.width old.gap old.count old.rest.now held.0 held.1 more) in
-        -- [the row; the rest; what lies in front; how both are cut]
+        -- Context: [the row; the rest; the part in front; how both are cut]
         move ! (4 ∷ 0 ∷ 1 ∷ []) $ joins ! T _ _ $ move ! (2 ∷ 1 ∷ 0 ∷ []) $ joins ! T _ _ $
         rewrite ! 0 (λ (xs : List T.Denot). ‵ (EndsAs T old.rest.ghost_name xs)) entries refl $ done !)
     leaves_row at_back cut =
@@ -68,7 +68,7 @@ module _ {M : Type 1} {𝓤 : Ura M} (𝓛 : Logic 𝓤) (T : RattleType) where
         let entries : rest ++ (held.0 ++ behind.now) ≡ entries_with old (held.1 ++ held.0 ∷ []) =
         rw (cut.before_is, behind_all old before at row behind more at_back cut)
         (with_last_row old.start old.width old.gap old.count old.rest.now held.0 held.1 more many) in
-        -- [the row; the rest; what lies behind; how both are cut]
+        -- Context: [the row; the rest; the part behind; how both are cut]
         move ! (4 ∷ 0 ∷ 2 ∷ []) $ joins ! T _ _ $ move ! (2 ∷ 1 ∷ 0 ∷ []) $ joins ! T _ _ $
         rewrite ! 0 (λ (xs : List T.Denot). ‵ (EndsAs T old.rest.ghost_name xs)) entries refl $ done !))
 

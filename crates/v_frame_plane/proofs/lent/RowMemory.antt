@@ -142,9 +142,9 @@ module _ {M : Type 1} {𝓤 : Ura M} {𝓛 : Logic 𝓤} {K : Type 0} {Γ : List
       move t (1 ∷ []) $ drop t $ move t (1 ∷ []) $ use1 𝓛 (‵ (fat full_share word b (o + 0) held) ⊛
       raw (Around 𝓛 b o ns)) (𝓛.laws.at_field full_share [] (tcons word Numbers) 0 word 0 refl b o (vcons held ns)) $
       split t $
-      -- [the field; the way back; the slice; the token]
+      -- Context: [the field; the way back; the slice; the token]
       move t (0 ∷ 2 ∷ 3 ∷ []) $ calls_take t fm at_mem run T a.lft met q walk.rest b (o + 0) inT os (λ e _.
-      -- [the field; what it owns now; the slice; the token; the way back]
+      -- Context: [the field; its new resources; the slice; the token; the way back]
       let walk' = vstruct (vcons (slice_val e.ref_ptr 0) ns) in
       move t (1 ∷ []) $ drop t $ move t (3 ∷ 0 ∷ []) $
       use2 𝓛 (‵ (fat full_share Bare b o walk')) (at_one 𝓛 (Slot 𝓛 b o ns) (Whole 𝓛 b o ns) (slice_val e.ref_ptr 0)) $

@@ -102,7 +102,7 @@ module _ {M : Type 1} {𝓤 : Ura M} {𝓛 : Logic 𝓤} {K : Type 0} {Γ : List
       lends t tt X refl word refl κ q x b o (held x) (λ α γ. let κ' : Lft = α ∷ κ in
       let within : κ' ⊑ X.lives = ⊑_meet κ' κ T.lives (meet_⊑_right (α ∷ []) κ)
       (⊑_trans κ' κ T.lives (meet_⊑_right (α ∷ []) κ) inT) in
-      -- [the place, lent; what its lender keeps; the token of κ'; the way back to that of κ]
+      -- Context: [the lent place; the lender's part; the token of κ'; the way back to that of κ]
       move t (2 ∷ []) $ use1 𝓛 (‵ (flft κ' (Share.left s)) ⊛ ‵ (flft κ' (Share.right s))) (𝓛.lfts.lft_split κ' s) $
       split t $
       calls t (0 ∷ 1 ∷ 2 ∷ []) fm (take.ended X (ghosts (element T κ)) (dict (element T κ)))
@@ -111,14 +111,14 @@ module _ {M : Type 1} {𝓤 : Ura M} {𝓛 : Logic 𝓤} {K : Type 0} {Γ : List
       (λ r ws. raw (fact 𝓤 (r ≡ x)) ∷ raw (fact 𝓤 (ws.0.now ≡ [])) ∷ []) (λ r ws. id⊢ 𝓤 _) (λ v r ws.
       move t (1 ∷ 2 ∷ []) $ heard t _ (λ same. heard t _
       (λ empty. move t (1 ∷ 2 ∷ []) $ use2 𝓛 (‵ (flft κ' s)) (𝓛.lfts.lft_join κ' s) $
-      -- [the token of κ'; what was handed back; the last value lent, and its borrow; what the lender keeps; the way
+      -- Context: [the token of κ'; the old value; the last value lent, and its borrow; the lender's part; the way
       -- back to the token of κ]
       let e = ws.0 in
       move t (0 ∷ 4 ∷ []) $ lft_over t tt α κ q $ move t (3 ∷ []) $ fsplit t $
       move t (2 ∷ 5 ∷ 0 ∷ []) $ comes_back t tt X refl word refl κ' γ b o e (slice_val e.ref_ptr 0)
       (λ u holds. ap only holds.0.0 ∙
       ap (λ (xs : List T.Denot). slice_val e.ref_ptr (length xs)) empty) $
-      -- [the place; what it owns; its borrow; the token of κ; what was handed back]
+      -- Context: [the place; its resources; its borrow; the token of κ; the old value]
       move t (4 ∷ []) $ rewrite t 0 (λ (r : MutBor (List T.Denot)). ‵ ((Slice T κ).own_val r (v ∷ []))) same refl $
       spelt t (Slice T κ) held (λ r vs is. is.0.0) x v (λ is _. move t (3 ∷ []) $ drop t $ move t (1 ∷ 2 ∷ 0 ∷ []) $
       regoal t (λ (u : Val). lands C Λ E d u rest p) is refl $ k e empty)))))

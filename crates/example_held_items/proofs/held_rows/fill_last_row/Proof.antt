@@ -57,7 +57,7 @@ fill_last_row_spec 𝓤 𝓛 𝓜 𝓡 wired T laws copy clone dict met =
     y in
     let fits = (((param_laws 0 T laws).lawful 𝓛).typed value (val value) are.1.0).0 in
     opened 𝓛 ended.signature κs qs a (mut_vals plane, (val value, tt)) (κT ⊑ T.lives) (λ inT.
-    -- [the tokens of κ and κT; the plane; the value]
+    -- Context: [the tokens of κ and κT; the plane; the value]
     enter ! _ _ _ _ _ $ alloc_all ! (λ l. pass_all ! refl ((tt, tt), (fits, tt)) $ let En = env function.locals l in
     sets ! (addr ! (through ! refl (stop !))) refl (tt, tt) $ move ! (2 ∷ 0 ∷ 1 ∷ []) $ begins_walk 𝓛 𝓜 𝓡 T laws
     of_rows _ _ _ _ _ _ _ _ !
@@ -84,8 +84,8 @@ fill_last_row_spec 𝓤 𝓛 𝓜 𝓡 wired T laws copy clone dict met =
     (law_met.met 𝓤 𝓛 𝓜 𝓡 (code.calls-v_frame_plane::laws::held_rows_are_the_table 𝓡.env wired) T laws)
     (((κT, tt), (rT, tt), tt, tt, tt), tt) (asks_that 𝓤 inT) refl (no_more !) (λ r us. ‵ (Law T of_rows) ∷ [])
     (λ r us. id⊢ 𝓤 _) (λ v r us. feq_l ! (λ is_unit. lands_as ! (ap only is_unit) refl (tt, tt) $
-    -- [the law; the token of κT; what is put back; the iterator; the token of κw; what is said of the plane; its lender;
-    -- the way back]
+    -- Context: [the law; the token of κT; the items to put back; the iterator; the token of κw; the clauses about the
+    -- plane; its lender; the way back]
     move ! (0 ∷ 3 ∷ 5 ∷ []) $ use3 𝓛 (‵ (FinalRows item left (rows_left left)) ⊛ ‵ (EndsBy T of_rows loan w))
     (by_law T 𝓛 of_rows ℓ left w (lowered left ∷ []) loan begun) $ split ! $ move ! (0 ∷ 3 ∷ []) $
     let before = put_back Back change (item_from Back (rows_left w)) in let is : before (rows_left left) ≡ last = rw
@@ -110,8 +110,8 @@ fill_last_row_spec 𝓤 𝓛 𝓜 𝓡 wired T laws copy clone dict met =
     (tt, (record { fits = lit< tt }, tt)) $
     first ! $ takes_other ! (get_tag ! (vrt ! refl (fld ! refl (stop !))) (whole !)) $ skips ! $ exec ! 𝓣.C 𝓣.Λ En
     (after 6 function.body) (at_ret En Post) $
-    -- [the iterator; the token of κw; what the draw says; the token of κT; how the plane ends; the plane's lender; the
-    -- way back; the value; the locals]
+    -- Context: [the iterator; the token of κw; the clauses of the draw; the token of κT; how the plane ends; the
+    -- plane's lender; the way back; the value; the locals]
     move ! (7 ∷ 2 ∷ []) $ drop ! $ use1 𝓛 (Puts left) (none_taken 𝓛 T Back of_rows change w left (sym drawn.0)) $
     forget_but ! En [] refl $ finish left drawn.1)
     -- If there is a row, it is filled.
@@ -124,8 +124,8 @@ fill_last_row_spec 𝓤 𝓛 𝓜 𝓡 wired T laws copy clone dict met =
     sets ! (agg ! (and_then ! (get ! refl) (and_then ! (get_in ! (fld ! refl (stop !)) (sub ! 1 refl (whole !)))
     (no_more !)))) refl
     (tt, (tt, (record { fits = row_fits }, tt))) $
-    -- [the row; the iterator; the token of κw; what the draw says; the token of κT; how the plane ends; its lender; the
-    -- way back; the value; the locals]
+    -- Context: [the row; the iterator; the token of κw; the clauses of the draw; the token of κT; how the plane ends;
+    -- its lender; the way back; the value; the locals]
     calls_last ! (2 ∷ 4 ∷ 0 ∷ 8 ∷ []) run (fill.ended T clone dict) (fill.clauses T clone dict 𝓛 𝓜.mem 𝓡.returns)
     (fill_met.met 𝓤 𝓛 𝓜 𝓡 (code.calls-example_held_items::held_rows::fill 𝓡.env wired) T laws copy clone dict met)
     (((κw, (κT, tt)), (qw, (rT, tt)), (inside, tt), (row, (value, tt)), (slice_of row ∷ [], (val value, tt))), tt)
@@ -134,13 +134,13 @@ fill_last_row_spec 𝓤 𝓛 𝓜 𝓡 wired T laws copy clone dict met =
     (λ u lasting. raw (fact 𝓤 (lasting.0 ≡ change row.now)) ∷ [])
     (λ u lasting. id⊢ 𝓤 _) (λ v u lasting. feq_l ! (λ is_unit. heard ! _ (λ is_filled.
     lands_last ! refl (unit_fits is_unit) $ exec ! 𝓣.C 𝓣.Λ En (after 6 function.body) (at_ret En Post) $
-    -- [the tokens of κw and κT; how the row ends; nothing; the iterator; what the draw says; how the plane ends; the
-    -- plane's lender; the way back; the locals]
+    -- Context: [the tokens of κw and κT; how the row ends; nothing; the iterator; the clauses of the draw; how the
+    -- plane ends; the plane's lender; the way back; the locals]
     move ! (2 ∷ []) $ fsplit ! $ fsplit ! $ use1 𝓛 (‵ (EndsAs item row.ghost_name lasting.0))
     (finally-res 𝓛 item row.ghost_name lasting.0) $
     rewrite ! 0 (λ (xs : List T.Denot). ‵ (EndsAs item row.ghost_name xs)) is_filled refl $
-    -- [how the row ends; its length; its borrow; the tokens of κw and κT; nothing; the iterator; what the draw says;
-    -- how the plane ends; ..]
+    -- Context: [how the row ends; its length; its borrow; the tokens of κw and κT; nothing; the iterator; the clauses
+    -- of the draw; how the plane ends; ..]
     move ! (1 ∷ 2 ∷ 5 ∷ 0 ∷ 7 ∷ []) $ drop ! $ drop ! $ drop ! $ use2 𝓛 (Puts left)
     (item_taken 𝓛 T Back of_rows change w left row (sym drawn.0)) $
     move ! (0 ∷ 3 ∷ []) $ forget_but ! En [] refl $ finish left drawn.1))))))))

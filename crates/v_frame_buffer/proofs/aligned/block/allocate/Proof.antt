@@ -70,7 +70,7 @@ module _ (E : El) (Z : Al) where
       use0 𝓛 (‵ Mark) marked $ fjoin ! $ move ! (1 ∷ []) $ use0 𝓛 (‵ Mark) marked $ fjoin ! $
       pure_i ! ((Bases E).own_val parts.0 (word p ∷ [])) (λ vss. (tt, (tt, tt)))
       ((vptr b o ∷ [], tt), (refl, (refl, tt))) $
-      -- [the base; the deed; the cells]
+      -- Context: [the base; the deed; the cells]
       nothing ! $ move ! (2 ∷ 0 ∷ []) $ fjoin ! $ move ! (2 ∷ 0 ∷ []) $ fjoin ! $ move ! (1 ∷ 0 ∷ []) $ fjoin ! $
       feq_i ! (List Val) (parts_val b o ∷ []) (parts_val b o ∷ []) refl $ fjoin ! $
       fpack ! (Valss rows) (packed (shape (tuple_type rows)) (parts.0, (parts.1, (parts.2, tt))) (parts_val b o ∷ []))
@@ -123,7 +123,7 @@ allocate_spec 𝓤 𝓛 𝓜 𝓡 wired X W X-laws W-laws g d dd met _ =
     returns ! (look_at ! 0 refl) $ free_all ! refl $ nothing ! $ nothing ! $
     ends ! (3 ∷ 4 ∷ 5 ∷ 0 ∷ 1 ∷ 2 ∷ []) En stayed c y v (Ok (made E Z b o len h)) (tt, (tt, tt)) (tt, (tt, tt)) refl $
     tells ! (refl, refl, refl) $ tells ! (refl, refl, refl) $ told ! (λ _. refl) in
-    -- [the handle; the tokens of κ, of the entries and of the allocator; the locals]
+    -- Context: [the handle; the tokens of κ, of the entries and of the allocator; the locals]
     sets ! (counted ! len bytes (get ! refl)) refl (tt, record { fits = bytes }) $
     sets ! (agg ! (no_more !)) refl _ $ sets ! (addr ! (from ! (stop !))) refl _ $
     sets ! (bin ! (get ! refl) (lit ! tt) tt) refl _ $ first ! $ branches ! (get ! refl)

@@ -117,7 +117,8 @@ deallocate_spec 𝓤 𝓛 𝓜 𝓡 wired X W X-laws W-laws g dz dx dd met dropp
     fsplit ! $ drop ! $
     enter ! _ _ _ _ _ $ alloc_all ! (λ l. pass_all ! refl
     (_, (word-Good [] start, ((tt, record { fits = few }), ((tt, record { fits = fits }), _)))) $
-    -- [the handle; what the deed owns; what the cells own; the tokens of κ, κ₁ and κ₂; the locals]
+    -- Context: [the handle; the resources of the deed; the resources of the cells; the tokens of κ, κ₁ and κ₂; the
+    -- locals]
     let Ev = env fn.locals l in let turn = inside (inside (head (after 1 fn.body))) in let rest = after 2 fn.body in
     sets ! (of_opd ! (lit ! tt)) refl (tt, record { fits = lit< tt }) $
     move ! (2 ∷ []) $ in_a_block ! _ (λ p. cells_own (R E) p items spare) (id⊢ 𝓤 (never 𝓤))
@@ -180,8 +181,8 @@ deallocate_spec 𝓤 𝓛 𝓜 𝓡 wired X W X-laws W-laws g dz dx dd met dropp
     sets ! (of_opd ! (get ! refl)) refl good $
     sets ! (is ! (bin ! (get ! refl) (lit ! tt) (record { fits = omega arith })) (ap (vint w64) (one_more i))) refl
     (tt, record { fits = omega arith }) $
-    -- [its cell; the entry; the entries left; room before them, and after them all; what the deed owns; the handle; the
-    -- tokens; the locals]
+    -- Context: [its cell; the entry; the remaining entries; the uninitialized memory before them, and after all of
+    -- them; the resources of the deed; the handle; the tokens; the locals]
     forget ! 0 refl $ move ! (3 ∷ 0 ∷ []) $ use2 𝓛 (‵ (froom (ty_array (elτ E) (suc i)) b o))
     (Rows.room_snoc rows 𝓛 b o i) $
     calls_last ! (7 ∷ 1 ∷ []) run (Drops X) (drops X 𝓛) dropped (((κ₁, tt), (q₁, tt), tt, (x, tt), (v ∷ [], tt)), tt)
