@@ -23,8 +23,8 @@
 //! - [`sequence`]: a [`Sequence`](sequence::Sequence) is a `Vec` inside another value. Contracts see it as a list.
 //! - [`laws`]: facts that go beyond a single call. Each is the contract of a function.
 //!
-//! A contract sees a plane as a geometry and a buffer. The visible pixels are a table of rows, and all other entries are the
-//! border. `Rattle.v_frame.specs.Prelude` exports the definitions that clauses use.
+//! A contract sees a plane as a geometry and a buffer. The visible pixels of a plane are a table of rows, and all other entries
+//! of its buffer are the border. `Rattle.v_frame.specs.Prelude` exports the definitions that clauses use.
 #![tactic(auto)]
 
 pub mod frame;

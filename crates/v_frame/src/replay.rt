@@ -1,12 +1,11 @@
 //! Replays: lists of calls on the visible pixels of a frame.
 //!
-//! Not part of `v_frame` 0.7.0. The contract of [`replay`](replay()) states the results and the effects of every
-//! list of calls by plain tables of rows. The tables have no padding and no border.
+//! Not part of `v_frame` 0.7.0. The contract of [`replay`](replay()) states the results and the effects of every list of calls
+//! by plain tables of rows, which have no padding and no border.
 //!
-//! The contract is proved in three steps, and each step has a contract with its full meaning. A call on one plane is a call on
-//! its table. A call on a frame finds its plane, and is then a call on the tables of the frame. A list of calls is proved by
-//! induction. Each kind of call is in one of the files in this folder. All of them use only the public calls of planes and
-//! frames.
+//! The contract is proved in three steps: a call on one plane is a call on its table, a call on a frame finds its plane and is
+//! then a call on the tables of the frame, and a list of calls follows by induction. Each kind of call is in one of the files
+//! in this folder. All of them use only the public calls of planes and frames.
 ghost use Rattle.std.specs.Prelude.{◌≡◌, ℕ, None, Some, IfOk, IfErr, OnOk, OnErr};
 ghost use Rattle.v_frame.specs.Frame.{tables_of, plane_at, KeepsBorders};
 ghost use Rattle.v_frame.specs.PlaneReply.{RepliesOn};

@@ -119,7 +119,7 @@ impl<T> Plane<T> {
     /// Returns the layout of the plane. The layout's [`checked_alloc_size`](PlaneGeometry::checked_alloc_size) is always
     /// `Some`.
     ///
-    /// Ports `Plane::geometry` of `v_frame` 0.7.0, which requires a feature there.
+    /// Ports `Plane::geometry` of `v_frame` 0.7.0, where it requires the feature `padding_api`.
     pub fn geometry(&self) -> PlaneGeometry
         ensures value { result ≡ self.now.geometry }
         ensures fits { Fits result }
@@ -129,7 +129,7 @@ impl<T> Plane<T> {
 
     /// Returns the whole buffer for reading: all rows from top to bottom, including the border.
     ///
-    /// Ports `Plane::data` of `v_frame` 0.7.0, which requires a feature there.
+    /// Ports `Plane::data` of `v_frame` 0.7.0, where it requires the feature `padding_api`.
     pub fn data(&self) -> &[T]
         ensures value { result.now ≡ self.now.buffer }
         ensures whole { length result.now ≡ alloc_size_of self.now.geometry }
@@ -139,7 +139,7 @@ impl<T> Plane<T> {
 
     /// Returns the whole buffer for writing: all rows from top to bottom, including the border.
     ///
-    /// Ports `Plane::data_mut` of `v_frame` 0.7.0, which requires a feature there.
+    /// Ports `Plane::data_mut` of `v_frame` 0.7.0, where it requires the feature `padding_api`.
     pub fn data_mut(&mut self) -> &mut [T]
         ensures* writes_back { sem 𝓛 (LendsBuffer T.row self.entry result) }
         ensures value { result.now ≡ self.old.buffer }

@@ -91,8 +91,8 @@ impl<'a, T> PlaneRef<'a, T> {
     /// Returns the rectangle of `width` by `height` visible pixels that begins at column `x` of row `y`, as a plane over the
     /// same buffer.
     ///
-    /// Everything around the rectangle becomes border, and the subsampling ratios are unchanged. Nothing is copied. Any call
-    /// that reads a plane can therefore read a block of it, for example a motion search.
+    /// Everything around the rectangle becomes border, and the subsampling ratios are unchanged. Nothing is copied. A motion
+    /// search can therefore compare blocks of a plane with the calls that compare whole planes.
     ///
     /// Returns `None` if the rectangle is empty or does not lie inside the visible one. Not part of `v_frame` 0.7.0.
     #[tactic(auto, using(v_frame_raster::proofs::tables::Regions::region_shows))]

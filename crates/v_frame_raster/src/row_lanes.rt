@@ -1,8 +1,8 @@
 //! Sums over two rows of two-byte pixels. Each lane of a vector is a partial sum, and the lanes are added once at the end of a
 //! row.
 //!
-//! In a large plane, the rows of a block lie far apart in memory, and the processor does not prefetch well if it runs a short
-//! loop over each row. Reading a whole row in one expression instead takes up to four times as long.
+//! In a large plane, the rows of a block lie far apart in memory. The processor prefetches them well if the code runs a short
+//! loop over each row. Code that reads a whole row at once takes up to four times as long.
 ghost use Rattle.std.specs.Prelude.{◌≡◌, ◌≤◌, length, take, sum_by, zip, IsTrue};
 ghost use Rattle.std.specs.Int.{abs_diff};
 ghost use Rattle.std.specs.Simd.Lanes.{zip2};

@@ -12,7 +12,8 @@ impl<T> Plane<T> {
     ///
     /// The [`checked_alloc_size`](PlaneGeometry::checked_alloc_size) of `geometry` must be `Some`.
     ///
-    /// Ports `Plane::new_uninit` of `v_frame` 0.7.0, with `Option` entries instead of uninitialized ones.
+    /// Ports `Plane::new_uninit` of `v_frame` 0.7.0, where it requires the feature `padding_api`. The entries are options
+    /// instead of uninitialized memory.
     ///
     /// # Errors
     ///
@@ -43,8 +44,8 @@ impl<T: Drop> Plane<Option<T>> {
     /// Converts the plane into a plane of its values. Every entry must be `Some`, that is, [`is_init`](Self::is_init) must
     /// return `true`.
     ///
-    /// The values are moved into a newly allocated buffer. Ports `Plane::assume_init` of `v_frame` 0.7.0, which has the same
-    /// precondition but allocates no second buffer.
+    /// The values are moved into a newly allocated buffer. Ports `Plane::assume_init` of `v_frame` 0.7.0, where it requires the
+    /// feature `padding_api`. The original has the same precondition, but allocates no second buffer.
     ///
     /// # Errors
     ///
