@@ -86,7 +86,7 @@ impl<'a, T> RowsMut<'a, T> {
         let place = row_place(start, width, gap, 0);
         let cut = mem::take(&mut self.rest).split_at_mut(place);
         let row = cut.1.split_at_mut(width);
-        // Keep the entries after the row.
+        // What lies after the row is kept.
         *self = RowsMut {
             rest: row.1,
             start: gap,
@@ -118,7 +118,7 @@ impl<'a, T> RowsMut<'a, T> {
         let place = row_place(start, width, gap, left);
         let cut = mem::take(&mut self.rest).split_at_mut(place);
         let row = cut.1.split_at_mut(width);
-        // Keep the entries before the row.
+        // The entries before the row are kept.
         *self = RowsMut {
             rest: cut.0,
             start,
