@@ -8,7 +8,7 @@ ghost use Rattle.v_frame_raster.specs.Raster.{IsWhole, raster, table_of, whole_r
 
 use crate::bytes::ByteData;
 use crate::pixels::Pixels;
-use crate::place::{row_start, saturated_offset, visible_offset, visible_place, visible_size};
+use crate::place::{row_in_buffer, row_start, visible_place, visible_size};
 use crate::rows::Rows;
 use crate::rows_ref::RowsRef;
 use crate::strided::encode_rows;
@@ -228,11 +228,10 @@ impl<'a, T> PlaneRef<'a, T> {
 }
 
 impl<'a, T: Copy> PlaneRef<'a, T> {
-    /// Returns the entry of the buffer at `data_origin + stride * y + x`, or `None` if this index is past the end of the
+    /// Returns the entry at the index of column `x` and row `y`. Returns `None` exactly if that index is past the end of the
     /// buffer.
     ///
-    /// For a visible pixel, this is the pixel in column `x` of row `y`. Visible positions are checked first, because their
-    /// index cannot overflow.
+    /// Past the visible width the index is in the border, or in the next row if the plane has no border there.
     pub fn pixel(&self, x: usize, y: usize) -> Option<T>
         ensures value { result ≡ slice_get self.now.buffer (place_of self.now.geometry x y) }
         ensures none { IsNone result
@@ -240,19 +239,17 @@ impl<'a, T: Copy> PlaneRef<'a, T> {
         ensures inside { x < self.now.geometry.width → y < self.now.geometry.height
             → result ≡ pixel_at (table_of self.now) x y }
     {
-        // A loop computes this slice once, and then adds one number fewer for each pixel.
-        let shown = self.entries_from_origin();
-        if x < self.geometry.width() && y < self.geometry.height() {
-            return Some(shown[visible_offset(self.geometry, x, y)]);
-        }
-        shown.get(saturated_offset(self.geometry, x, y)).copied()
+        // A loop over `x` tests the row once, before its first pixel. So each pixel costs one comparison.
+        let start = row_in_buffer(self.geometry, y)?;
+        self.entries_from(start).get(x).copied()
     }
 
-    /// Returns the entries of the buffer, starting at the first visible pixel.
-    fn entries_from_origin(&self) -> &'a [T]
-        ensures { result.now ≡ drop (origin_of self.now.geometry) self.now.buffer }
+    /// Returns the entries of the buffer from index `start` on. `start` must be at most the length of the buffer.
+    fn entries_from(&self, start: usize) -> &'a [T]
+        requires { start ≤ length self.now.buffer }
+        ensures { result.now ≡ drop start self.now.buffer }
     {
-        &self.buffer[self.geometry.data_origin()..]
+        &self.buffer[start..]
     }
 
     /// Returns the visible pixel in column `x` of row `y`. `x` must be less than [`width`](Self::width), and `y` must be less
