@@ -111,7 +111,7 @@ impl<T> AlignedData<T> {
         entry_of(self.as_mut_slice(), place)
     }
 
-    /// Returns the entry `offset` places after index `start`, for writing. Returns `None` if the buffer ends before that entry.
+    /// Returns the entry at index `start + offset` for writing, or `None` if this index is past the end of the buffer.
     ///
     /// `start` must be at most the length of the buffer.
     pub fn get_mut_after(&mut self, start: usize, offset: usize) -> Option<&mut T>

@@ -228,10 +228,11 @@ impl<'a, T> PlaneRef<'a, T> {
 }
 
 impl<'a, T: Copy> PlaneRef<'a, T> {
-    /// Returns the entry at the index of column `x` and row `y`. Returns `None` exactly if that index is past the end of the
+    /// Returns the entry of the buffer at `data_origin + stride * y + x`, or `None` if this index is past the end of the
     /// buffer.
     ///
-    /// Past the visible width the index is in the border, or in the next row if the plane has no border there.
+    /// For a visible pixel, this is the pixel in column `x` of row `y`. If `x` is at least the visible width, the entry belongs
+    /// to the border, or to the next row if there is no border.
     pub fn pixel(&self, x: usize, y: usize) -> Option<T>
         ensures value { result ≡ slice_get self.now.buffer (place_of self.now.geometry x y) }
         ensures none { IsNone result
@@ -239,12 +240,12 @@ impl<'a, T: Copy> PlaneRef<'a, T> {
         ensures inside { x < self.now.geometry.width → y < self.now.geometry.height
             → result ≡ pixel_at (table_of self.now) x y }
     {
-        // A loop over `x` tests the row once, before its first pixel. So each pixel costs one comparison.
+        // A loop over `x` checks the row only once, before its first pixel. Each pixel then costs one comparison.
         let start = row_in_buffer(self.geometry, y)?;
         self.entries_from(start).get(x).copied()
     }
 
-    /// Returns the entries of the buffer from index `start` on. `start` must be at most the length of the buffer.
+    /// Returns the entries of the buffer from index `start` on. The index `start` must be at most the length of the buffer.
     fn entries_from(&self, start: usize) -> &'a [T]
         requires { start ≤ length self.now.buffer }
         ensures { result.now ≡ drop start self.now.buffer }
