@@ -8,10 +8,11 @@ module _ {T : Type 0} (form : PixelForm T) (peak : T) where
   abbrev pub negative_pixel : T → T
   negative_pixel pixel = form.pixel_of (form.value peak - form.value pixel)
 
-  -- The negative of each sample of a plane, and of each plane of a frame.
+  -- The negative of each sample of a plane.
   abbrev pub negative_table : Table T → Table T
   negative_table rows = mapped (mapped negative_pixel) rows
 
+  -- The negative of each plane of a frame.
   abbrev pub negative_tables : Tables T → Tables T
   negative_tables tables =
       record {

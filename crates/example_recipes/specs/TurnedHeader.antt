@@ -17,9 +17,12 @@ range_stays : without_format (codes "YSCSS=420JPEG" ∷ codes "COLORRANGE=FULL" 
     ≡ codes "COLORRANGE=FULL" ∷ []
 range_stays = refl
 
+-- The ratio with its numerator and denominator exchanged.
 abbrev pub turned_ratio : Ratio → Ratio
 turned_ratio ratio = record { numerator = ratio.denominator; denominator = ratio.numerator }
 
+-- The header with width and height exchanged, with another color format, and without the extensions
+-- that repeat the old format.
 abbrev pub turned_header : StreamHeader → Color → StreamHeader
 turned_header header color =
     record {

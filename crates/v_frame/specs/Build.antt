@@ -11,6 +11,7 @@ use Rattle.v_frame.specs.declared.frame.error.FrameError.{FrameError}
 use Rattle.v_frame.specs.declared.frame.error.FrameError.TheVariants.{UnsupportedBitDepth, DataTypeMismatch}
 use Rattle.v_frame.specs.declared.frame.error.FrameError.TheVariants.{UnsupportedResolution}
 
+-- The values of a frame builder: the luma size, the format, the bit depth and the luma paddings.
 pub record FrameRequest : Type 0 where
   pub width : ℕ
   pub height : ℕ
@@ -65,6 +66,7 @@ module _ {T : Type 0} where
     pub bit_depth : non_zero_u8_get frame.bit_depth ≡ request.bit_depth
 
 module _ {T : Type 0} where
+  -- The visible width and height of a plane.
   abbrev pub visible_size_of : Raster T → ℕ × ℕ
   visible_size_of plane = (plane.geometry.width, plane.geometry.height)
 

@@ -45,10 +45,10 @@ module _ {W X D : Type 0} (items : W → List X) (second : W → List X → Fml)
       (second old (put_back_in_turn side_of make (items old) draws remaining))))
 
 module _ (T : RattleType) where
-  -- The rows that a series of calls took are put back, and the pixels that a series of calls took
-  -- are put back.
+  -- The rows that a series of calls took are put back.
   abbrev pub PutsRowsBack : List (RowDraw T.Denot) → RowsMut T.Denot → RowsMut T.Denot → Fml
   PutsRowsBack = PutsBack rows_left (FinalRows T) side_of_row row_written
 
+  -- The pixels that a series of calls took are put back.
   abbrev pub PutsPixelsBack : List (PixelDraw T.Denot) → PixelsMut T.Denot → PixelsMut T.Denot → Fml
   PutsPixelsBack = PutsBack pixels_left (FinalPixels T) side_of_pixel pixel_written

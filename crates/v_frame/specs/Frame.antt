@@ -16,6 +16,7 @@ pub record Tables (T : Type 0) : Type 0 where
   pub v : Option (Table T)
 
 module _ {T : Type 0} where
+  -- The table with this index: 0 is Y, 1 is U and 2 is V.
   abbrev pub table_at : Tables T → ℕ → Option (Table T)
   table_at tables index = of_three tables.y tables.u tables.v index
 

@@ -59,10 +59,12 @@ module _ {T : Type 0} where
   abbrev pub WritesPlane : List (VisibleCall T) → ℕ → Type 0
   WritesPlane calls index = Any (λ call. written_plane call ≡ Some index) calls
 
+  -- The result of a call on one pixel, which may lie outside the visible rectangle.
   abbrev pub answer_of_pixel : Option T → Answer T
   answer_of_pixel None = OutsideRectangle
   answer_of_pixel (Some pixel) = PixelShown pixel
 
+  -- The result and the table of a copy.
   abbrev pub reply_of_copy : CopyOutcome T → TableReply T
   reply_of_copy copy = record { answer = Copied copy.answer; table = copy.table }
 
@@ -107,15 +109,17 @@ module _ {T : Type 0} (form : PixelForm T) where
       let reply = on_table call rows in
       record { answer = reply.answer; tables = with_table tables (named_plane call) reply.table }
 
+  -- The result of a call on a frame, and the tables after the call.
   abbrev pub reply_to : VisibleCall T → Tables T → Reply T
   reply_to call tables = on_tables call tables (table_at tables (named_plane call))
 
-  -- The results of a list of calls, and the tables after these calls, executed in order.
+  -- The results of a list of calls that are executed in order.
   abbrev pub answers_to : List (VisibleCall T) → Tables T → List (Answer T)
   answers_to [] tables = []
   answers_to (call ∷ calls) tables =
       (reply_to call tables).answer ∷ answers_to calls (reply_to call tables).tables
 
+  -- The tables after a list of calls that are executed in order.
   abbrev pub tables_after : List (VisibleCall T) → Tables T → Tables T
   tables_after [] tables = tables
   tables_after (call ∷ calls) tables = tables_after calls (reply_to call tables).tables

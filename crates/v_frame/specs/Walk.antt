@@ -11,14 +11,16 @@ use Rattle.v_frame.specs.declared.replay.draw.Drawn.{Drawn}
 use Rattle.v_frame.specs.declared.replay.draw.RowDraw.{RowDraw}
 use Rattle.v_frame.specs.declared.replay.draw.PixelDraw.{PixelDraw}
 
--- The number of calls from the front, and the number of calls from the back.
+-- The side is the front.
 abbrev pub is_front : Side → Bool
 is_front Front = true
 is_front Back = false
 
+-- The number of calls from the front.
 abbrev pub fronts : List Side → ℕ
 fronts sides = count_by is_front sides
 
+-- The number of calls from the back.
 abbrev pub backs : List Side → ℕ
 backs sides = count_by (λ side. not (is_front side)) sides
 
@@ -28,23 +30,25 @@ number_of_item Front items before = fronts before
 number_of_item Back items before = items - 1 - backs before
 
 module _ {X : Type 0} where
-  -- Between two calls, an iterator is the list of the remaining items. A call takes the first or
-  -- the last of them, if there is one, and leaves the others.
+  -- The item that a call from this side takes. Between two calls, an iterator is the list of the
+  -- remaining items, and a call takes the first or the last of them, if there is one.
   abbrev pub item_from : Side → List X → Option X
   item_from Front items = slice_get items 0
   item_from Back items = slice_get items (length items - 1)
 
+  -- The items that remain after a call from this side.
   abbrev pub remaining_after : Side → List X → List X
   remaining_after Front items = drop 1 items
   remaining_after Back items = take (length items - 1) items
 
-  -- The results of a series of calls, and the items that remain after them.
+  -- The results of a series of calls, executed in turn.
   abbrev pub drawn_in_turn : List X → List Side → List (Drawn X)
   drawn_in_turn items [] = []
   drawn_in_turn items (side ∷ sides) =
       record { item = item_from side items; left = length (remaining_after side items) }
       ∷ drawn_in_turn (remaining_after side items) sides
 
+  -- The items that remain after a series of calls, executed in turn.
   abbrev pub remaining_in_turn : List X → List Side → List X
   remaining_in_turn items [] = items
   remaining_in_turn items (side ∷ sides) = remaining_in_turn (remaining_after side items) sides
@@ -67,13 +71,14 @@ module _ {X : Type 0} where
   abbrev pub draws_answer : List X → List Side → List (Drawn X)
   draws_answer items sides = drawn_after items [] sides
 
-  -- The items that were taken from one side, in the order of the calls.
+  -- The item of one call, if the call was made from the given side.
   abbrev pub given_by : Side → Side → Option X → List X
   given_by Front Front item = option_to_list item
   given_by Front Back item = []
   given_by Back Front item = []
   given_by Back Back item = option_to_list item
 
+  -- The items that were taken from one side, in the order of the calls.
   abbrev pub given_from : Side → List Side → List (Drawn X) → List X
   given_from side [] answers = []
   given_from side (drawn ∷ sides) [] = []
@@ -122,17 +127,19 @@ module _ {X D : Type 0} (side_of : D → Side) (make : D → X → X) where
   walk_leaves items draws = changed_after items [] draws
 
 module _ {T : Type 0} where
+  -- The side from which a call takes a row.
   abbrev pub side_of_row : RowDraw T → Side
   side_of_row draw = draw.side
 
+  -- The side from which a call takes a pixel.
   abbrev pub side_of_pixel : PixelDraw T → Side
   side_of_pixel draw = draw.side
 
-  -- A row that a call took is overwritten, and a pixel that a call took is replaced if the call has
-  -- a value.
+  -- The row that a call took, overwritten with the writes of the call.
   abbrev pub row_written : RowDraw T → List T → List T
   row_written draw row = overwritten_row row draw.writes
 
+  -- The pixel that a call took, replaced if the call has a value.
   abbrev pub pixel_written : PixelDraw T → T → T
   pixel_written draw pixel = unwrap_or draw.value pixel
 

@@ -43,6 +43,7 @@ module _ (R : RattleType) where
       beside (said (fits (length items + spare))) (lent_at b o items)
   cells_lent null_ptr items spare = said ffalse
 
+  -- The allocator's token for a block of n entries, unless the entries take no bytes.
   abbrev pub token_if : Bool → (Ty → Ptr → Fml) → Ptr → ℕ → Fml
   token_if true token p n = ftrue
   token_if false token p n = token (raw (ty_array (lone R.mir) n)) p

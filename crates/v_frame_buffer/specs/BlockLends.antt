@@ -5,6 +5,7 @@ use Rattle.v_frame_buffer.specs.Part.{with_part}
 use Rattle.v_frame_buffer.specs.declared.aligned.block.Cells.{Cells}
 use Rattle.v_frame_buffer.specs.contracts.aligned.block.Cells.{the_row}
 
+-- The cells with other entries.
 abbrev pub with_items : {X : Type 0} → Cells X → List X → Cells X
 with_items c xs = record { mark = c.mark; at = c.at; items = xs; spare = c.spare }
 

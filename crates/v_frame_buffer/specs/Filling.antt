@@ -12,9 +12,11 @@ pub record Filled (T : Type 0) : Type 0 where
   pub spare : ℕ
 
 module _ {T : Type 0} where
+  -- The block with these written entries, and with memory for `spare` further entries.
   abbrev pub filled_with : List T → ℕ → Filled T
   filled_with items spare = record { items = items; spare = spare }
 
+  -- The encoding of such a block in the logic.
   abbrev pub filled_code : Coded T → Coded (Filled T)
   filled_code c = code_by (List T × ℕ) (coded× (coded_list c) coded_ℕ)
       (λ f. (f.items, f.spare)) (λ p. filled_with p.0 p.1) (λ _. refl)

@@ -45,18 +45,24 @@ module _ (T : RattleType) where
       fsep (EndsAs T walk.front.ghost_name parts.front)
       (fsep (FinalRows T walk.rows parts.rows) (EndsAs T walk.back.ghost_name parts.back))))
 
+  -- The remaining pixels before and after have equal final values.
   abbrev pub KeepsPixels : PixelsMut T.Denot → PixelsMut T.Denot → Fml
   KeepsPixels = Keeps PixelEndsAs FinalPixels
 
+  -- The effect of taking the first pixel.
   abbrev pub TakesFirstPixel : PixelsMut T.Denot → PixelsMut T.Denot → MutBor T.Denot → Fml
   TakesFirstPixel = Takes PixelEndsAs FinalPixels ◌∷◌
 
+  -- The effect of taking the last pixel.
   abbrev pub TakesLastPixel : PixelsMut T.Denot → PixelsMut T.Denot → MutBor T.Denot → Fml
   TakesLastPixel = Takes PixelEndsAs FinalPixels (λ pixel rest. rest ++ pixel ∷ [])
 
-  -- The effect of `next`, and the effect of `next_back`.
+  -- The effect of `next`: the final values of the pixels before are those of the remaining pixels,
+  -- with the final value of the yielded pixel in front of them.
   abbrev pub LendsFirstPixel : PixelsMut T.Denot → Option (MutBor T.Denot) → PixelsMut T.Denot → Fml
   LendsFirstPixel = LendsBy KeepsPixels TakesFirstPixel
 
+  -- The effect of `next_back`: the final values of the pixels before are those of the remaining
+  -- pixels, with the final value of the yielded pixel after them.
   abbrev pub LendsLastPixel : PixelsMut T.Denot → Option (MutBor T.Denot) → PixelsMut T.Denot → Fml
   LendsLastPixel = LendsBy KeepsPixels TakesLastPixel

@@ -37,9 +37,11 @@ module _ (T : RattleType) where
   unfoldable pub FinalRows : RowsMut T.Denot → List (List T.Denot) → Fml
   FinalRows walk second = EndsAs walk.rest.ghost_name (entries_with walk second)
 
+  -- The remaining rows before and after have equal final values.
   abbrev pub KeepsRows : RowsMut T.Denot → RowsMut T.Denot → Fml
   KeepsRows = Keeps EndsAs FinalRows
 
+  -- The effect of taking the first row.
   abbrev pub TakesFirstRow : RowsMut T.Denot → RowsMut T.Denot → MutBor (List T.Denot) → Fml
   TakesFirstRow = Takes EndsAs FinalRows ◌∷◌
 
@@ -51,10 +53,13 @@ module _ (T : RattleType) where
       fwand (fsep (EndsAs row.ghost_name held.0) (FinalRows new held.1))
       (FinalRows old (held.1 ++ held.0 ∷ []))))
 
-  -- The effect of `next`, and the effect of `next_back`.
+  -- The effect of `next`: the final values of the rows before are those of the remaining rows, with
+  -- the final value of the yielded row in front of them.
   abbrev pub LendsFirstRow : RowsMut T.Denot → Option (MutBor (List T.Denot)) → RowsMut T.Denot
       → Fml
   LendsFirstRow = LendsBy KeepsRows TakesFirstRow
 
+  -- The effect of `next_back`: the final values of the rows before are those of the remaining rows,
+  -- with the final value of the yielded row after them.
   abbrev pub LendsLastRow : RowsMut T.Denot → Option (MutBor (List T.Denot)) → RowsMut T.Denot → Fml
   LendsLastRow = LendsBy KeepsRows TakesLastRow

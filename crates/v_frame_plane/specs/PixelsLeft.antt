@@ -16,9 +16,10 @@ abbrev pub pixels_slice : {T : Type 0} → PixelsMut T → MutBor (List T)
 pixels_slice walk = rows_slice walk.rows
 
 module _ (T : Type 0) where
-  -- Calls from one end lend the remaining pixels in order.
+  -- Calls from the front lend the remaining pixels in order.
   abbrev pub LendsPixelsInOrder : Type 0
   LendsPixelsInOrder = YieldsMutRefsInOrder (YieldsFirstMut (pixels_left {T = T})) pixels_left
 
+  -- Calls from the back lend the remaining pixels in reverse order.
   abbrev pub LendsPixelsInReverse : Type 0
   LendsPixelsInReverse = YieldsMutRefsInReverse (YieldsLastMut (pixels_left {T = T})) pixels_left

@@ -15,9 +15,10 @@ abbrev pub rows_slice : {T : Type 0} → RowsMut T → MutBor (List T)
 rows_slice walk = walk.rest
 
 module _ (T : Type 0) where
-  -- Calls from one end lend the remaining rows in order.
+  -- Calls from the front lend the remaining rows in order.
   abbrev pub LendsRowsInOrder : Type 0
   LendsRowsInOrder = YieldsMutRefsInOrder (YieldsFirstMut (rows_left {T = T})) rows_left
 
+  -- Calls from the back lend the remaining rows in reverse order.
   abbrev pub LendsRowsInReverse : Type 0
   LendsRowsInReverse = YieldsMutRefsInReverse (YieldsLastMut (rows_left {T = T})) rows_left

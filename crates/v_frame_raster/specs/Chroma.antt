@@ -45,10 +45,12 @@ divided_geometry x y g =
     geometry_of (g.width / x) (g.height / y) (g.pad_left / x) (g.pad_right / x)
     (g.pad_top / y) (g.pad_bottom / y) x y
 
--- Chroma at the size of luma has the geometry of luma itself, including its ratios.
+-- The ratio of a format whose chroma planes have the size of the luma plane.
 abbrev pub is_full : ℕ × ℕ → Bool
 is_full ratio = ratio.0 == 1 && ratio.1 == 1
 
+-- The geometry of the chroma planes for a given ratio. If chroma has the size of luma, it is the
+-- geometry of luma itself, including its ratios.
 abbrev pub subsampled_by : Option (ℕ × ℕ) → Geometry → Result (Option Geometry) SubsamplingError
 subsampled_by None g = Ok None
 subsampled_by (Some ratio) g =

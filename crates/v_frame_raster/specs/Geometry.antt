@@ -15,10 +15,11 @@ pub record Geometry : Type 0 where
   pub subsampling_x : ℕ
   pub subsampling_y : ℕ
 
--- The largest `usize`, and the largest `isize`.
+-- The largest `usize`.
 abbrev pub usize_max : ℕ
 usize_max = 2 ^ 64 - 1
 
+-- The largest `isize`.
 abbrev pub isize_max : ℕ
 isize_max = 2 ^ 63 - 1
 
@@ -80,12 +81,13 @@ abbrev pub whole_geometry : Geometry → Geometry
 whole_geometry g =
     geometry_of (stride_of g) (alloc_height_of g) 0 0 0 0 g.subsampling_x g.subsampling_y
 
--- The column of the buffer that lies x columns to the right of the first visible column, and the
--- row that lies y rows below the first visible row. A negative x lies to the left, and a negative y
--- above.
+-- The column of the buffer that lies x columns to the right of the first visible column. If x is
+-- negative, it lies to the left.
 abbrev pub buffer_column : Geometry → ℤ → ℤ
 buffer_column g x = pos g.pad_left +ℤ x
 
+-- The row of the buffer that lies y rows below the first visible row. If y is negative, it lies
+-- above.
 abbrev pub buffer_row : Geometry → ℤ → ℤ
 buffer_row g y = pos g.pad_top +ℤ y
 
@@ -103,6 +105,7 @@ buffer_region g x y width height =
     region_geometry (whole_geometry g) (unsigned_abs (buffer_column g x))
     (unsigned_abs (buffer_row g y)) width height
 
+-- An entry of the buffer belongs to the border, or is a visible pixel.
 pub data Mark : Type 0 where
   Border : Mark
   Visible : Mark
@@ -112,9 +115,11 @@ pub record Piece : Type 0 where
   pub mark : Mark
   pub entries : ℕ
 
+-- A piece of n border entries.
 abbrev pub border_piece : ℕ → Piece
 border_piece n = record { mark = Border; entries = n }
 
+-- A piece of n visible pixels.
 abbrev pub visible_piece : ℕ → Piece
 visible_piece n = record { mark = Visible; entries = n }
 
@@ -123,10 +128,11 @@ abbrev pub times : ℕ → List Piece → List Piece
 times zero pieces = []
 times (suc n) pieces = pieces ++ times n pieces
 
--- A row of the buffer above or below the visible rectangle, and a row that crosses it.
+-- A row of the buffer above or below the visible rectangle.
 abbrev pub outer_row : Geometry → List Piece
 outer_row g = border_piece (stride_of g) ∷ []
 
+-- A row of the buffer that crosses the visible rectangle.
 abbrev pub crossing_row : Geometry → List Piece
 crossing_row g = border_piece g.pad_left ∷ visible_piece g.width ∷ border_piece g.pad_right ∷ []
 
@@ -136,11 +142,13 @@ cutting_plan g =
     times g.pad_top (outer_row g)
     ++ (times g.height (crossing_row g) ++ times g.pad_bottom (outer_row g))
 
--- The number of entries before the first visible piece.
+-- The number of entries before the first visible piece, if a piece with n entries and this mark is
+-- followed by a plan that has `rest` entries before its first visible piece.
 abbrev pub before_visible : Mark → ℕ → ℕ → ℕ
 before_visible Border n rest = n + rest
 before_visible Visible n rest = 0
 
+-- The number of entries before the first visible piece of a plan.
 abbrev pub entries_in_front : List Piece → ℕ
 entries_in_front [] = 0
 entries_in_front (piece ∷ plan) = before_visible piece.mark piece.entries (entries_in_front plan)

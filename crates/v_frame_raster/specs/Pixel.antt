@@ -32,10 +32,11 @@ pub record PixelForm (T : Type 0) : Type 0 where
   pub value : T → ℕ
   pub pixel_of : ℕ → T
 
--- Pixels that are their own values, with one byte and with two bytes.
+-- Pixels of one byte that are their own values.
 abbrev pub one_byte : PixelForm ℕ
 one_byte = record { size = 1; value = λ value. value; pixel_of = λ value. value }
 
+-- Pixels of two bytes that are their own values.
 abbrev pub two_bytes : PixelForm ℕ
 two_bytes = record { size = 2; value = λ value. value; pixel_of = λ value. value }
 

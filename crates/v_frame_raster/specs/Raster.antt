@@ -10,6 +10,7 @@ pub record Raster (T : Type 0) : Type 0 where
   pub geometry : Geometry
   pub buffer : List T
 
+-- The plane with this geometry and this buffer.
 abbrev pub raster : {T : Type 0} → Geometry → List T → Raster T
 raster geometry buffer = record { geometry = geometry; buffer = buffer }
 
@@ -30,23 +31,27 @@ module _ {T : Type 0} where
   cut_by (piece ∷ plan) xs =
       (piece.mark, take piece.entries xs) ∷ cut_by plan (drop piece.entries xs)
 
-  -- The contribution of a piece to the table, and its contribution to the border.
+  -- The contribution of a piece to the table.
   abbrev pub if_visible : Mark → List T → List (List T)
   if_visible Border xs = []
   if_visible Visible xs = xs ∷ []
 
+  -- The contribution of a piece to the border.
   abbrev pub if_border : Mark → List T → List (List T)
   if_border Border xs = xs ∷ []
   if_border Visible xs = []
 
+  -- The visible pieces of a buffer that was cut into pieces.
   abbrev pub visible_pieces : List (Mark × List T) → List (List T)
   visible_pieces [] = []
   visible_pieces (piece ∷ pieces) = if_visible piece.0 piece.1 ++ visible_pieces pieces
 
+  -- The border pieces of a buffer that was cut into pieces.
   abbrev pub border_pieces : List (Mark × List T) → List (List T)
   border_pieces [] = []
   border_pieces (piece ∷ pieces) = if_border piece.0 piece.1 ++ border_pieces pieces
 
+  -- The buffer of a plane, cut into the pieces that its geometry specifies.
   abbrev pub picture : Raster T → List (Mark × List T)
   picture plane = cut_by (cutting_plan plane.geometry) plane.buffer
 

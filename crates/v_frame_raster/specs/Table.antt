@@ -13,10 +13,12 @@ abbrev pub Table : Type 0 → Type 0
 Table T = List (List T)
 
 module _ {T : Type 0} where
+  -- The number of columns of a table, which is the length of its first row.
   abbrev pub width_of : Table T → ℕ
   width_of [] = 0
   width_of (row ∷ rows) = length row
 
+  -- The number of rows of a table.
   abbrev pub height_of : Table T → ℕ
   height_of rows = length rows
 

@@ -7,6 +7,7 @@ abbrev pub spaced : List ℕ → List ℕ
 spaced [] = []
 spaced (first ∷ rest) = decimal first ++ flat_map (λ number. 32 ∷ decimal number) rest
 
+-- A line with the numbers of a row.
 abbrev pub line_of : List ℕ → List ℕ
 line_of row = spaced row ++ 10 ∷ []
 

@@ -18,11 +18,12 @@ blank_tables = record { y = replicate 2 (replicate 4 0); u = None; v = None }
 abbrev pub calls_on : List ℕ → List (VisibleCall ℕ)
 calls_on source = CopyFromSlice 0 source ∷ Width 0 ∷ Height 0 ∷ Row 0 0 ∷ Row 0 1 ∷ []
 
--- The first result is that of a copy.
+-- The result exists and is that of a copy.
 abbrev pub IsCopied : Option (Answer ℕ) → Type 0
 IsCopied None = ⊥
 IsCopied (Some answer) = (copied : Result (Unit {0}) CopyError) × (answer ≡ Copied copied)
 
+-- The first result is that of a copy.
 abbrev pub StartsWithCopy : List (Answer ℕ) → Type 0
 StartsWithCopy answers = IsCopied (slice_get answers 0)
 
