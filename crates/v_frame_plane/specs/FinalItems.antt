@@ -8,7 +8,7 @@ use base.Fml.{fsep, fwand, fall}
 -- remaining items of an iterator have these final values.
 module _ {Walk Item : Type 0} (Ends : GName → Item → Fml)
     (FinalItems : Walk → List Item → Fml) where
-  -- The remaining items now and the remaining items before have equal final values.
+  -- The final values of the items that remained before are those of the items that remain now.
   abbrev pub Keeps : Walk → Walk → Fml
   Keeps old new = fall (List Item) (λ second. fwand (FinalItems new second) (FinalItems old second))
 

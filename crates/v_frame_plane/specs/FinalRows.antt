@@ -22,7 +22,8 @@ module _ {T : Type 0} where
   abbrev pub entries_with : RowsMut T → List (List T) → List T
   entries_with walk = with_rows_ahead walk.start walk.width walk.gap walk.count walk.rest.now
 
-  -- Every table with the row lengths of the plane can be written through the rows of the iterator.
+  -- Any table whose rows have the lengths of the plane's rows can be written through the rows of
+  -- the iterator.
   unfoldable pub WritesEachTable : Raster T → RowsMut T → Type 0
   WritesEachTable plane walk =
       (rows : List (List T)) → map length rows ≡ map length (table_of plane)

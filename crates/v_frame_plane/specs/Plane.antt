@@ -11,7 +11,7 @@ module _ {T : Type 0} where
   with_row plane y row =
       raster plane.geometry (with_part plane.buffer (place_of plane.geometry 0 y) row)
 
-  -- Every row of the old row's length can be written as row y of the table.
+  -- Any row with the length of the old one can be written as row y of the table.
   abbrev pub WritesEachRow : Raster T → ℕ → List T → Type 0
   WritesEachRow plane y old =
       (row : List T) → length row ≡ length old → WritesRow plane y (with_row plane y row) row

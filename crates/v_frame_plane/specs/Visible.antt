@@ -13,13 +13,15 @@ module _ {T : Type 0} where
   with_visible plane entries =
       raster plane.geometry (with_part plane.buffer (origin_of plane.geometry) entries)
 
-  -- For every list of the old list's length, the plane shows the rows of the list.
+  -- If any list with the length of the old one is written there, the plane shows the rows of this
+  -- list.
   abbrev pub ShowsEachList : Raster T → ℕ → ℕ → ℕ → List T → Type 0
   ShowsEachList plane width height stride old =
       (new : List T) → length new ≡ length old
       → table_of (with_visible plane new) ≡ strided_rows width height stride new
 
-  -- Every list that differs from the old list only in these rows keeps the border.
+  -- If any list that differs from the old one only in these rows is written there, the border is
+  -- unchanged.
   abbrev pub KeepsBorderOfEach : Raster T → ℕ → ℕ → ℕ → List T → Type 0
   KeepsBorderOfEach plane width height stride old =
       (new : List T) → KeepsRest width height stride old new
@@ -41,7 +43,8 @@ module _ {T : Type 0} where
         → pixel_at (table_of new) i j ≡ pixel_at (table_of old) i j
     pub border : KeepsBorder old new
 
-  -- Every list that differs from the old list only in these rows can be written into the rectangle.
+  -- If any list that differs from the old one only in these rows is written there, the rectangle
+  -- shows the rows of this list.
   abbrev pub WritesEachRectangle : Raster T → ℕ → ℕ → ℕ → ℕ → ℕ → List T → Type 0
   WritesEachRectangle plane x y width height stride old =
       (new : List T) → KeepsRest width height stride old new

@@ -58,7 +58,8 @@ subsampled_by (Some ratio) g =
     else (if is_divisible ratio.0 ratio.1 g then Ok (Some (divided_geometry ratio.0 ratio.1 g))
     else Err (record {}))
 
--- The geometry of the chroma planes, nothing if the format has no chroma, or the error.
+-- The geometry of the chroma planes: `None` if the format has no chroma, and an error if a size or
+-- padding is not divisible.
 abbrev pub subsampled : ChromaSubsampling → Geometry → Result (Option Geometry) SubsamplingError
 subsampled subsampling g = subsampled_by (ratio_of subsampling) g
 

@@ -17,13 +17,14 @@ pub record AddsUp {T : Type 0} (sum : List T → List T → ℕ) : Type 0 where
       → sum (row_major (drop y table)) (row_major (drop y other))
       ≡ sum row row1 + sum (row_major (drop (y + 1) table)) (row_major (drop (y + 1) other))
 
--- A list that is written from the front. It has the expected length, and agrees with the expected
--- list at every index below a place.
+-- A list that is written from the front. It has the length of the expected list, and agrees with it
+-- at every index below `place`.
 pub record AgreesBelow {X : Type 0} (expected now : List X) (place : ℕ) : Type 0 where
   pub long : length now ≡ length expected
   pub same : (k : ℕ) → k < place → slice_get now k ≡ slice_get expected k
 
--- A list that is written in place from the front. From the place on, it is still the old list.
+-- A list that is written in place from the front. From index `place` on, it still agrees with the
+-- old list.
 pub record WrittenBelow {X : Type 0} (expected old now : List X) (place : ℕ) : Type 0 where
   pub agrees : AgreesBelow expected now place
   pub others : (k : ℕ) → place ≤ k → slice_get now k ≡ slice_get old k
@@ -34,8 +35,8 @@ pub record IsQuotient (a ratio : ℕ) : Type 0 where
   pub found : (q : ℕ) → a ≡ q * ratio → (has_quotient a ratio ≡ true) × (a / ratio ≡ q)
   pub exact : has_quotient a ratio ≡ true → a ≡ a / ratio * ratio
 
--- The chroma geometry has the size of the chroma planes. Neither this size nor the buffer is larger
--- than for luma.
+-- The chroma geometry has the size of the chroma planes. Its size and its buffer are not larger
+-- than those of luma.
 pub record HasChromaSize (subsampling : ChromaSubsampling) (luma chroma : Geometry) : Type 0 where
   pub size : chroma_size_of subsampling luma.width luma.height ≡ Some (chroma.width, chroma.height)
   pub no_wider : chroma.width ≤ luma.width

@@ -6,8 +6,8 @@ use Rattle.v_frame_raster.specs.Geometry.{cutting_plan, mark_at, place_of}
 use Rattle.v_frame_raster.specs.Raster.{Raster, table_of, border_of, whole_rows}
 use Rattle.v_frame_raster.specs.Table.{pixel_at, rectangle}
 
--- The geometry, the table and the border together determine a buffer of the size that the geometry
--- specifies.
+-- The geometry, the table and the border together determine the buffer, if it has the size that the
+-- geometry specifies.
 abbrev pub DeterminesBuffer : Type 0 → Type 0
 DeterminesBuffer T =
     (p q : Raster T) → length p.buffer ≡ alloc_size_of p.geometry → length q.buffer

@@ -36,7 +36,7 @@ module _ {T : Type 0} where
   rectangle x y width height rows =
       map (λ row. take width (drop x row)) (take height (drop y rows))
 
-  -- A row after a write. Each entry is the written value, or the old entry if nothing is written
+  -- The row after a write. Each entry is the written value, or the old entry if nothing is written
   -- there.
   abbrev pub overwritten_row : List T → List (Option T) → List T
   overwritten_row [] writes = []

@@ -32,7 +32,8 @@ module _ {T : Type 0} where
   entries_with_row plane y row rest =
       take (place_of plane.geometry 0 y) plane.buffer ++ (row ++ rest)
 
-  -- Every row of the old row's length can be written as row y, in front of the given rest.
+  -- Any row with the length of the old one can be written as row y, with the entries `rest` after
+  -- it.
   abbrev pub WritesEachFront : Raster T → ℕ → List T → List T → Type 0
   WritesEachFront plane y old rest =
       (row : List T) → length row ≡ length old
@@ -48,7 +49,7 @@ module _ {T : Type 0} where
   abbrev pub WritesPixel : Raster T → ℕ → ℕ → Raster T → T → Type 0
   WritesPixel old x y new pixel = WritesTable old new (with_pixel (table_of old) x y pixel)
 
-  -- Every pixel can be written as the pixel in column x of row y of the table.
+  -- Any pixel can be written as the pixel in column x of row y of the table.
   abbrev pub WritesEachPixel : Raster T → ℕ → ℕ → Type 0
   WritesEachPixel plane x y = (pixel : T) → WritesPixel plane x y (with_entry plane x y pixel) pixel
 
@@ -69,7 +70,7 @@ module _ {T : Type 0} where
       with_two_parts plane.buffer (place_of plane.geometry 0 y) width (place_of plane.geometry 0 z)
       width row other
 
-  -- Every two rows of the old rows' lengths can be written as rows y and z of the table.
+  -- Any two rows with the lengths of the old ones can be written as rows y and z of the table.
   abbrev pub WritesEachPair : Raster T → ℕ → ℕ → List T → List T → Type 0
   WritesEachPair plane y z old other_old =
       (row other : List T) → length row ≡ length old → length other ≡ length other_old
