@@ -1,4 +1,4 @@
--- One more frame of a stream, and the end of it.
+-- One more frame of a stream, and the end of the stream.
 use Rattle.std.proofs.Common.{ℕ, ◌≡◌, ◌+◌, List, [], ◌∷◌, ◌++◌, map, Option, min, refl, ◌∙◌, ap, arith, append-nil}
 use Rattle.std.proofs.Common.{length-append}
 use Rattle.std.proofs.lemmas.List.Elements.{All-push}
@@ -44,7 +44,7 @@ module _ {T : Type 0} {form : PixelForm T} {size : (ℕ × ℕ) × (Option (ℕ 
       written = before.written;
     }
 
--- brighter tables have the same sizes
+-- Increasing the pixels of a table keeps its size.
 size_of_mapped : (f : ℕ → ℕ) (table : Table ℕ) → size_of (map (map f) table) ≡ size_of table
 size_of_mapped f [] = refl
 size_of_mapped f (row ∷ rows) = simp length-map

@@ -2,6 +2,6 @@
 use Rattle.std.specs.Prelude.{ℕ, ◌+◌, ◌/◌, List, map}
 use Rattle.std.specs.List.{zip}
 
--- the averages of the pixels of two rows, rounded down
+-- The averages of the pixels of two rows, rounded down.
 abbrev pub averages : List ℕ → List ℕ → List ℕ
 averages row other = map (λ pair. (pair.0 + pair.1) / 2) (zip row other)

@@ -1,4 +1,5 @@
--- Means of neighbours worked out by hand. Each line computes: it is proved by `refl`.
+-- Means of neighbors with the results computed by hand. Each equation is proved by computation
+-- (`refl`).
 use Rattle.std.specs.Prelude.{ℕ, ◌≡◌, [], ◌∷◌, refl}
 use Rattle.v_frame.specs.Prelude.{Table}
 use Rattle.example_callers.specs.Filters.{box_mean}
@@ -6,7 +7,8 @@ use Rattle.example_callers.specs.Filters.{box_mean}
 abbrev three_rows : Table ℕ
 three_rows = (0 ∷ 9 ∷ 18 ∷ []) ∷ (27 ∷ 36 ∷ 45 ∷ []) ∷ (54 ∷ 63 ∷ 72 ∷ []) ∷ []
 
--- in the middle all nine, and in a corner four times itself and twice each of its two neighbours
+-- In the middle, all nine pixels count. In a corner, the pixel itself counts four times, and each
+-- of its two neighbors in its row and column counts twice.
 in_the_middle : box_mean three_rows 1 1 ≡ 36
 in_the_middle = refl
 

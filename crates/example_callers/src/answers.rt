@@ -1,4 +1,4 @@
-//! Calls as values, and what is read from their answers.
+//! Calls as values, and the values in their results.
 ghost use Rattle.std.specs.Prelude.{◌≡◌, [], ◌∷◌, None, Some, IfOk, IfErr, count_by, option_copied};
 ghost use Rattle.v_frame.specs.Prelude.{tables_of};
 ghost use Rattle.example_callers.specs.Answers.{row_in};
@@ -11,7 +11,8 @@ use v_frame::pixel::Pixel;
 use v_frame::replay::{Answer, VisibleCall, replay};
 use v_frame::sequence::Sequence;
 
-/// A new frame answers a list of calls: it is built with 3 by 2 pixels, filled, and one pixel is set and read.
+/// Returns the results of a list of calls on a new frame. The frame has 3 by 2 pixels and is filled, and one pixel is set and
+/// read.
 pub fn first_answers(alloc: Global) -> Result<Vec<Answer<u8>>, FrameError>
     ensures answers { IfOk result (λ answers. answers.items
         ≡ Answer.Number 3 ∷ Answer.RowShown (Some (4 ∷ 5 ∷ 9 ∷ [])) ∷ Answer.NoPlane ∷ []) }
@@ -34,7 +35,7 @@ pub fn first_answers(alloc: Global) -> Result<Vec<Answer<u8>>, FrameError>
     }
 }
 
-/// Returns a frame of monochrome video, which shows 1, 2 and 3 above 4, 5 and 6.
+/// Returns a monochrome frame that shows the row 1, 2, 3 above the row 4, 5, 6.
 fn frame_of_six_pixels(alloc: Global) -> Result<Frame<u8>, FrameError>
     ensures shown { IfOk result (λ frame. tables_of frame
         ≡ record { y = (1 ∷ 2 ∷ 3 ∷ []) ∷ (4 ∷ 5 ∷ 6 ∷ []) ∷ []; u = None; v = None }) }
@@ -50,7 +51,7 @@ fn frame_of_six_pixels(alloc: Global) -> Result<Frame<u8>, FrameError>
     Ok(frame)
 }
 
-/// Returns the row that an answer shows, where it shows one.
+/// Returns the row in a result, or `None` if the result has no row.
 pub fn row_of<T>(answer: &Answer<T>) -> Option<&[T]>
     ensures { option_copied result ≡ row_in answer.now }
 {
@@ -60,7 +61,7 @@ pub fn row_of<T>(answer: &Answer<T>) -> Option<&[T]>
     }
 }
 
-/// Returns how many pixels of an answered row are this one.
+/// Returns the number of pixels of `row` that are equal to `pixel`.
 pub fn count_of_pixel<T: Pixel>(row: &Sequence<T>, pixel: T) -> usize
     ensures { result ≡ count_by (λ p. T.eq p pixel) row.now }
 {

@@ -6,8 +6,8 @@ use v_frame::laws::{places_have_marks, same_entries_same_table};
 use v_frame::pixel::{Pixel, fill_row};
 use v_frame::plane::{Plane, PlaneGeometry, visible_rows_mut};
 
-/// Fills the border of a plane with one value: afterwards it is that of a plane that holds the value everywhere. What the
-/// plane shows stays.
+/// Fills the border of a plane with `value`. The new border equals that of a plane whose entries are all `value`. The visible
+/// pixels are unchanged.
 pub fn fill_border<T: Pixel>(plane: &mut Plane<T>, value: T)
     ensures table { table_of plane.new ≡ table_of plane.old }
     ensures border { border_of plane.new ≡ border_of (filled value plane.old.geometry) }
@@ -19,7 +19,7 @@ pub fn fill_border<T: Pixel>(plane: &mut Plane<T>, value: T)
     fill_border_places(geometry, plane.data_mut(), value);
 }
 
-/// Fills the rows above the rectangle, what lies on both sides of it, and the rows below.
+/// Fills the rows above the visible rectangle, the entries on both sides of it, and the rows below.
 fn fill_border_places<T: Copy>(geometry: PlaneGeometry, buffer: &mut [T], value: T)
     requires fits { Fits geometry }
     requires whole { length buffer.old ≡ alloc_size_of geometry }
@@ -46,7 +46,7 @@ fn fill_border_places<T: Copy>(geometry: PlaneGeometry, buffer: &mut [T], value:
     );
 }
 
-/// Fills the entries from one place up to another.
+/// Fills the entries from index `start` up to, but excluding, index `end`.
 fn fill_part<T: Copy>(buffer: &mut [T], start: usize, end: usize, value: T)
     requires order { start ≤ end }
     requires within { end ≤ length buffer.old }
@@ -60,7 +60,7 @@ fn fill_part<T: Copy>(buffer: &mut [T], start: usize, end: usize, value: T)
     fill_row(&mut buffer[start..end], value);
 }
 
-/// Repeats the first visible row in the row above it, each with its border. All other rows of the buffer stay.
+/// Copies the first visible row into the row above it, both with their border. All other rows of the buffer are unchanged.
 pub fn repeat_first_row<T: Copy>(plane: &mut Plane<T>)
     requires { 0 < plane.old.geometry.pad_top }
     ensures above { let top = plane.old.geometry.pad_top in

@@ -1,4 +1,4 @@
-//! Pictures put together: one placed on a ground of one color.
+//! Pictures that are combined: a picture on a background of one color.
 ghost use Rattle.std.specs.Prelude.{◌≡◌, ◌+◌, ◌<◌, ◌≤◌, ◌⊎◌, ℕ, Some};
 ghost use Rattle.v_frame.specs.Prelude.{KeepsBorder, pixel_at, table_of};
 
@@ -6,7 +6,7 @@ use v_frame::pixel::Pixel;
 use v_frame::plane::{Plane, PlaneRef};
 use v_frame_ops::{copy_region, fill};
 
-/// Shows a picture from column `x` of row `y` on, and this pixel everywhere else.
+/// Copies a picture into a plane at column `x` of row `y`, and sets all other visible pixels to `ground`.
 pub fn place_on_ground<T: Pixel>(
     picture: &PlaneRef<'_, T>,
     plane: &mut Plane<T>,

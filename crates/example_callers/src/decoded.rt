@@ -1,13 +1,15 @@
-//! A picture in a decoder's buffer, seen as a plane and compared, without a copy.
+//! A picture in a decoder's buffer, used as a plane and compared without a copy.
 ghost use Rattle.std.specs.Prelude.{◌≡◌, ◌-◌, ◌≤◌, ◌↔◌, IfSome, IsSome, SomeIff};
 ghost use Rattle.v_frame.specs.Prelude.{IsGeometry, IsWhole, geometry_of, raster, row_major, squared_errors, table_of};
 
 use v_frame::plane::{Plane, PlaneGeometry, PlaneRef};
 use v_frame_ops::sum_of_squared_errors;
 
-/// Returns the plane in a buffer of rows of `stride` bytes, each the visible pixels and then what the decoder left there.
+/// Returns a plane over a buffer whose rows are `stride` bytes apart. Each row has `width` visible pixels, followed by bytes
+/// that the decoder left there.
 ///
-/// `None` where the size is zero, the stride is below the width, or the buffer has not `stride` bytes for each row.
+/// Returns `None` if the size is zero, if the stride is less than the width, or if the length of the buffer is not `stride *
+/// height` bytes.
 pub fn plane_of_buffer(
     buffer: &[u8],
     width: usize,
@@ -23,7 +25,7 @@ pub fn plane_of_buffer(
     PlaneRef::new(geometry, buffer)
 }
 
-/// Returns the sum of the squared errors of a plane against a decoded one. `None` exactly where they differ in size.
+/// Returns the sum of the squared errors of a plane against a decoded plane, or `None` if their sizes differ.
 pub fn error_against(plane: &Plane<u8>, decoded: &PlaneRef<'_, u8>) -> Option<u128>
     ensures there { IsSome result ↔ (plane.now.geometry.width ≡ decoded.now.geometry.width)
         × (plane.now.geometry.height ≡ decoded.now.geometry.height) }

@@ -5,9 +5,8 @@ ghost use Rattle.v_frame.specs.Prelude.{RowsFit, row_major, squared_errors, stri
 use v_frame::plane::{Plane, RowsRef};
 use v_frame_ops::rows::sum_of_squared_errors;
 
-/// Returns the sum of the squared errors of a plane against a decoder's picture of its size, in which each row begins
-/// `stride` bytes after the one before. `None` exactly where the last row would end past the decoder's bytes, or rows would
-/// overlap.
+/// Returns the sum of the squared errors of a plane against a decoded picture of the same size, whose rows begin `stride` bytes
+/// apart. Returns `None` if the last row would end past the end of `decoded`, or if rows would overlap.
 pub fn error_against_rows(plane: &Plane<u8>, decoded: &[u8], stride: usize) -> Option<u128>
     ensures { let size = plane.now.geometry in
         SomeIff result (RowsFit size.width size.height stride (length decoded.now))

@@ -1,4 +1,4 @@
-//! A filter, written twice: each pixel `p` of a plane becomes `255 - p`.
+//! A filter in two versions: each pixel `p` of a plane becomes `255 - p`.
 ghost use Rattle.std.specs.Prelude.{◌≡◌, ◌-◌};
 ghost use Rattle.v_frame.specs.Prelude.{KeepsBorder, table_of};
 ghost use Rattle.v_frame_ops.specs.Prelude.{mapped};
@@ -7,7 +7,7 @@ use v_frame::laws::tables_agree_by_rows;
 use v_frame::plane::Plane;
 use v_frame_ops::map_pixels;
 
-/// Inverts each pixel, by the call that changes a plane pixel by pixel.
+/// Inverts each pixel with the call that changes a plane pixel by pixel.
 pub fn invert(plane: &mut Plane<u8>)
     ensures table { table_of plane.new ≡ mapped (mapped (λ pixel. 255 - pixel)) (table_of plane.old) }
     ensures border { KeepsBorder plane.old plane.new }
@@ -15,7 +15,7 @@ pub fn invert(plane: &mut Plane<u8>)
     map_pixels(plane, |pixel| 255 - pixel);
 }
 
-/// Inverts each pixel, by a loop over the rows.
+/// Inverts each pixel with a loop over the rows.
 pub fn invert_by_rows(plane: &mut Plane<u8>)
     ensures table { table_of plane.new ≡ mapped (mapped (λ pixel. 255 - pixel)) (table_of plane.old) }
     ensures border { KeepsBorder plane.old plane.new }

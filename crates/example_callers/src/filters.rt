@@ -1,4 +1,4 @@
-//! Filters: pixel by pixel, of two planes, and one that reads neighbours.
+//! Filters: one that changes single pixels, one that combines two planes, and one that reads the neighbors of a pixel.
 ghost use Rattle.std.specs.Prelude.{◌≡◌, ◌+◌, ◌-◌, ◌/◌, ◌<◌, ◌≤◌, ℕ, length, slice_get, Some};
 ghost use Rattle.v_frame.specs.Prelude.{KeepsBorder, KeepsBorders, pixel_at, rectangle, table_of, tables_of, whole_rows, with_table};
 ghost use Rattle.v_frame_ops.specs.Prelude.{combined, mapped, IsPadded};
@@ -17,7 +17,7 @@ pub fn halve_pixels(plane: &mut Plane<u8>)
     map_pixels(plane, |pixel| pixel / 2);
 }
 
-/// Makes each luma pixel darker by `by`, down to 0. The chroma planes stay.
+/// Decreases each luma pixel by `by`, but to at least 0. The chroma planes are unchanged.
 pub fn darken(frame: &mut Frame<u8>, by: u8)
     ensures tables { tables_of frame.new ≡ with_table (tables_of frame.old) 0
         (mapped (mapped (λ pixel. pixel - by)) (table_of frame.old.y_plane)) }
@@ -26,7 +26,7 @@ pub fn darken(frame: &mut Frame<u8>, by: u8)
     map_pixels(&mut frame.y_plane, |pixel| pixel.saturating_sub(by));
 }
 
-/// Mixes a plane with another one of its size, half and half, rounded down.
+/// Mixes a plane with another plane of the same size: each pixel becomes the average of both, rounded down.
 pub fn mix_with(plane: &mut Plane<u8>, other: &PlaneRef<'_, u8>)
     requires wide { other.now.geometry.width ≡ plane.old.geometry.width }
     requires high { other.now.geometry.height ≡ plane.old.geometry.height }
@@ -37,8 +37,8 @@ pub fn mix_with(plane: &mut Plane<u8>, other: &PlaneRef<'_, u8>)
     combine_pixels(plane, other, |p, q| p.midpoint(q));
 }
 
-/// Shows in `target` a plane made soft: each pixel is the mean of it and its eight neighbours, rounded down. Past the edge
-/// the nearest pixel counts, which the border of the plane then shows.
+/// Writes a softened copy of `plane` into `target`: each pixel is the mean of the pixel and its eight neighbors, rounded down.
+/// Positions past the edge have the value of the nearest pixel, which the border of `plane` holds afterwards.
 pub fn soften(plane: &mut Plane<u8>, target: &mut Plane<u8>)
     requires border { HasBorderAllRound plane.old.geometry }
     requires wide { target.old.geometry.width ≡ plane.old.geometry.width }
@@ -52,7 +52,8 @@ pub fn soften(plane: &mut Plane<u8>, target: &mut Plane<u8>)
     box_blur(plane, target);
 }
 
-/// The same, where the border of the source is the continuation of its picture, as [`pad`] leaves it.
+/// Blurs `source` into `target` as [`soften`] does. The border of `source` must already repeat its edge pixels, as [`pad`]
+/// makes it.
 pub fn box_blur(source: &Plane<u8>, target: &mut Plane<u8>)
     requires padded { IsPadded source.now }
     requires border { HasBorderAllRound source.now.geometry }
@@ -68,7 +69,7 @@ pub fn box_blur(source: &Plane<u8>, target: &mut Plane<u8>)
     blur_inside(&around, target);
 }
 
-/// What a plane shows and one pixel of its border on each side, as a plane.
+/// Returns the visible pixels and one pixel of the border on each side as a plane.
 fn one_pixel_around(plane: &Plane<u8>) -> PlaneRef<'_, u8>
     requires { HasBorderAllRound plane.now.geometry }
     ensures table { let g = plane.now.geometry in
@@ -85,7 +86,7 @@ fn one_pixel_around(plane: &Plane<u8>) -> PlaneRef<'_, u8>
     whole.visible_region(left, top, width, height)
 }
 
-/// Blurs all but the outermost pixels of a plane into another one, which is smaller by two.
+/// Blurs all but the outermost pixels of `source` into `target`, which is smaller by two in each direction.
 fn blur_inside(source: &PlaneRef<'_, u8>, target: &mut Plane<u8>)
     requires wide { source.now.geometry.width ≡ target.old.geometry.width + 2 }
     requires high { source.now.geometry.height ≡ target.old.geometry.height + 2 }
@@ -103,7 +104,7 @@ fn blur_inside(source: &PlaneRef<'_, u8>, target: &mut Plane<u8>)
     }
 }
 
-/// Makes each pixel of a row the mean of nine: three of each of these rows, which are longer by two.
+/// Sets each pixel of `target` to the mean of nine pixels: three of each of the other rows, which are longer by two.
 fn blur_row(target: &mut [u8], above: &[u8], row: &[u8], below: &[u8])
     requires above { length above.now ≡ length target.old + 2 }
     requires row { length row.now ≡ length target.old + 2 }

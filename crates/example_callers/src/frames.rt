@@ -1,4 +1,4 @@
-//! Frames: built, refused, and changed by one plane.
+//! Frames: building them, build errors, and changes to one plane.
 ghost use Rattle.std.specs.Prelude.{◌≡◌, ◌≢◌, ◌⊎◌, ℕ, None, Some, Err, IfOk, IsOkUnless, MatchOption, option_map};
 ghost use Rattle.v_frame.specs.Prelude.{table_of, packed_copy, chroma_size_of, plane_at, KeepsBorders, refusal_of, FrameError};
 
@@ -8,7 +8,7 @@ use v_frame::laws::built_frame_is_zero;
 use v_frame::pixel::Pixel;
 use v_frame::plane::CopyError;
 
-/// Copies pixels into the plane of an index, where the frame has it. All else of the frame stays.
+/// Copies pixels into the plane with an index, if the frame has this plane. Everything else in the frame is unchanged.
 pub fn copy_into_plane<T: Pixel>(
     frame: &mut Frame<T>,
     index: usize,
@@ -28,7 +28,7 @@ pub fn copy_into_plane<T: Pixel>(
     }
 }
 
-/// Why a frame can't be built, or nothing where it can.
+/// Returns the reason why a frame cannot be built, or `None` if it can.
 pub fn reason_not_to_build<T: Pixel>(alloc: Global, builder: FrameBuilder) -> Option<FrameError>
     ensures told { (e : FrameError) → refusal_of T.BYTES builder ≡ Some e → result ≡ Some e }
     ensures built { refusal_of T.BYTES builder ≡ None
@@ -37,7 +37,7 @@ pub fn reason_not_to_build<T: Pixel>(alloc: Global, builder: FrameBuilder) -> Op
     builder.build::<T>(alloc).err()
 }
 
-/// Returns the size of the chroma planes of a frame that is built for it, or nothing where the format has none.
+/// Builds a frame, and returns the size of its chroma planes, or `None` if the format has no chroma.
 pub fn built_chroma_size<T: Pixel>(
     alloc: Global,
     builder: FrameBuilder,
@@ -53,7 +53,7 @@ pub fn built_chroma_size<T: Pixel>(
     Ok(size)
 }
 
-/// Returns the visible size of the chroma planes of a frame, or nothing where it has none.
+/// Returns the visible size of the chroma planes of a frame, or `None` if it has none.
 fn chroma_size<T: Pixel>(frame: &Frame<T>) -> Option<(usize, usize)>
     ensures { result ≡ option_map
         (λ plane. (plane.geometry.width, plane.geometry.height)) frame.now.u_plane }

@@ -17,7 +17,7 @@ pub fn sum_of_pixels<T: Pixel>(plane: &Plane<T>) -> u128
     sum
 }
 
-/// Returns how many visible pixels of two planes differ, pixel by pixel. The planes have one size.
+/// Returns the number of positions at which the visible pixels of two planes differ. The planes must have the same size.
 pub fn count_of_differing_pixels<T: Pixel>(a: &Plane<T>, b: &Plane<T>) -> usize
     requires wide { a.now.geometry.width ≡ b.now.geometry.width }
     requires high { a.now.geometry.height ≡ b.now.geometry.height }
@@ -33,7 +33,7 @@ pub fn count_of_differing_pixels<T: Pixel>(a: &Plane<T>, b: &Plane<T>) -> usize
     count
 }
 
-/// Returns the largest pixel of a row, or nothing where the row is empty.
+/// Returns the largest pixel of a row, or `None` if the row is empty.
 pub fn largest_pixel<T: Pixel>(row: &[T]) -> Option<T>
     ensures found { IfSome result (λ pixel. Contains row.now pixel) }
     ensures largest { IfSome result (λ pixel.

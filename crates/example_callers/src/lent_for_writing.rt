@@ -1,4 +1,4 @@
-//! Visible rows lent to calls that write rows of a buffer.
+//! Visible rows that are lent to calls which write rows of a buffer.
 ghost use Rattle.std.specs.Prelude.{◌≡◌, ℕ, ◌+◌, ◌<◌, ◌≤◌, ◌⊎◌, Some, replicate};
 ghost use Rattle.v_frame.specs.Prelude.{IsInside, KeepsBorder, pixel_at, table_of};
 
@@ -21,7 +21,7 @@ pub fn fill_visible<T: Pixel>(plane: &mut Plane<T>, pixel: T)
     rows::fill(entries, width, height, stride, pixel);
 }
 
-/// Sets each pixel of a rectangle to `pixel`. It begins at column `x` of row `y`, and lies inside the picture.
+/// Sets each pixel of a rectangle to `pixel`. The rectangle begins at column `x` of row `y`, and must lie inside the picture.
 pub fn fill_part<T: Pixel>(
     plane: &mut Plane<T>,
     x: usize,

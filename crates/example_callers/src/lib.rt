@@ -1,8 +1,8 @@
-//! What users write over `v_frame`: small functions, each with a contract of what it gives and leaves. Not all of them are
+//! Example callers of `v_frame`: small functions, each with a contract of its result and its effect. Not all contracts are
 //! exact.
 //!
-//! They are there to be copied, and they show that the public contracts are enough: nothing here looks into `v_frame`.
-//! README and CALLING quote some of them. Our own.
+//! The functions are meant to be copied. They show that the public contracts are sufficient: nothing here depends on private
+//! parts of `v_frame`. README and CALLING quote some of them. Not part of `v_frame` 0.7.0.
 #![tactic(auto)]
 
 pub mod answers;

@@ -1,4 +1,4 @@
-//! What motion search asks of planes: how far blocks are apart, whether planes show the same, and the next smaller picture.
+//! Building blocks of motion search: the cost of a block, comparisons of planes, and the picture at half the size.
 ghost use Rattle.std.specs.Prelude.{◌≡◌, ◌*◌, ◌+◌, ◌≤◌, ◌↔◌, ℕ, List, IsTrue, Some, SomeIff, slice_get, unsigned_abs};
 ghost use Rattle.v_frame.specs.Prelude.{absolute_differences, halved, rectangle, row_major, squared_errors, table_of};
 ghost use Rattle.v_frame.specs.Prelude.{buffer_column, buffer_row, whole_rows, IsInBuffer, IsInside};
@@ -10,8 +10,8 @@ use v_frame_ops::{
     downscale, first_difference, pad, sum_of_absolute_differences, sum_of_squared_errors,
 };
 
-/// Returns how far a block is from the pixels that a plane shows from column `x` of row `y` on. `None` exactly where it does not
-/// show as many.
+/// Returns the sum of the absolute differences between a block and the visible pixels of `plane` from column `x` of row `y` on.
+/// Returns `None` if the block does not fit there.
 pub fn cost_of_block<T: Pixel>(
     plane: &PlaneRef<'_, T>,
     block: &PlaneRef<'_, T>,
@@ -28,8 +28,8 @@ pub fn cost_of_block<T: Pixel>(
     Some(sum_of_absolute_differences(&region, block))
 }
 
-/// Returns how far a block is from the pixels that a motion vector points at, from column `x` of row `y` on: some may lie in the
-/// border. `None` exactly where one is outside of the buffer.
+/// Returns the sum of the absolute differences between a block and the pixels at which a motion vector points, from column `x`
+/// of row `y` on. These may lie in the border. Returns `None` if one of them lies outside the buffer.
 pub fn cost_of_vector<T: Pixel>(
     plane: &PlaneRef<'_, T>,
     block: &PlaneRef<'_, T>,
@@ -47,7 +47,7 @@ pub fn cost_of_vector<T: Pixel>(
     Some(sum_of_absolute_differences(&region, block))
 }
 
-/// Returns whether the sum of the squared errors of two planes of one size is at most `most`.
+/// Returns whether the sum of the squared errors of two planes of the same size is at most `most`.
 pub fn is_close<T: Pixel>(a: &PlaneRef<'_, T>, b: &PlaneRef<'_, T>, most: u128) -> bool
     requires wide { a.now.geometry.width ≡ b.now.geometry.width }
     requires high { a.now.geometry.height ≡ b.now.geometry.height }
@@ -57,7 +57,7 @@ pub fn is_close<T: Pixel>(a: &PlaneRef<'_, T>, b: &PlaneRef<'_, T>, most: u128) 
     sum_of_squared_errors(a, b) <= most
 }
 
-/// Returns whether two planes of one size show the same.
+/// Returns whether two planes of the same size show equal pixels.
 pub fn show_the_same<T: Pixel>(a: &PlaneRef<'_, T>, b: &PlaneRef<'_, T>) -> bool
     requires wide { a.now.geometry.width ≡ b.now.geometry.width }
     requires high { a.now.geometry.height ≡ b.now.geometry.height }
@@ -66,7 +66,7 @@ pub fn show_the_same<T: Pixel>(a: &PlaneRef<'_, T>, b: &PlaneRef<'_, T>) -> bool
     first_difference(a, b).is_none()
 }
 
-/// Shows in `target` the picture of half the size, continued into its border.
+/// Writes `source` at half the width and height into `target`, and repeats the edge pixels of `target` into its border.
 pub fn next_level<T: Pixel>(source: &PlaneRef<'_, T>, target: &mut Plane<T>)
     requires wide { source.now.geometry.width ≡ 2 * target.old.geometry.width }
     requires high { source.now.geometry.height ≡ 2 * target.old.geometry.height }

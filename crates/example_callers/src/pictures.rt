@@ -8,8 +8,8 @@ use v_frame::laws::full_iterations_change_each_pixel;
 use v_frame::plane::Plane;
 use v_frame::replay::{PixelDraw, Side, VisibleCall, replay};
 
-/// Makes each luma pixel brighter by `by`, up to the largest value. The border and the chroma planes stay, and where memory is
-/// refused nothing changes that the frame shows.
+/// Increases each luma pixel by `by`, but to at most the largest value. The border and the chroma planes are unchanged. If
+/// memory cannot be allocated, all visible pixels are unchanged.
 pub fn brighten(alloc: Global, frame: &mut Frame<u8>, by: u8) -> Result<(), AllocError>
     ensures tables { OnOk result (tables_of frame.new ≡ with_table (tables_of frame.old) 0
         (map (map (λ pixel. min (pixel + by) 255)) (table_of frame.old.y_plane))) }
@@ -17,7 +17,7 @@ pub fn brighten(alloc: Global, frame: &mut Frame<u8>, by: u8) -> Result<(), Allo
     ensures border { KeepsBorders frame.old frame.new }
 {
     full_iterations_change_each_pixel::<u8>();
-    // The law is about rows of one width, and a width that was read is that of all rows.
+    // The law is about rows of equal width. A width that was read is the width of all rows.
     let _width = frame.y_plane.width();
     let draws = brighter_pixels(alloc, &frame.y_plane, by)?;
     let calls = [VisibleCall::PixelsMut {
@@ -30,7 +30,7 @@ pub fn brighten(alloc: Global, frame: &mut Frame<u8>, by: u8) -> Result<(), Allo
     }
 }
 
-/// Returns a call of `next` for each pixel, with the pixel made brighter.
+/// Returns one call of `next` for each pixel, with the pixel increased by `by`.
 fn brighter_pixels(
     alloc: Global,
     plane: &Plane<u8>,

@@ -1,4 +1,4 @@
-//! Whole planes and frames: made entry by entry, copied and compared.
+//! Whole planes and frames: filled one entry at a time, copied and compared.
 ghost use Rattle.std.specs.Prelude.{◌≡◌, ◌≢◌, ◌%◌, ◌<◌, ◌↔◌, ℕ, All, None, Some, IfOk, IsSome, IsTrue, length, option_map, slice_index_or};
 ghost use Rattle.v_frame.specs.Prelude.{alloc_size_of, Fits, table_of, packed_copy, plane_at, KeepsBorders};
 
@@ -24,7 +24,7 @@ pub fn plane_of_places(alloc: Global, geometry: PlaneGeometry) -> Result<Plane<u
     }
 }
 
-/// Fills each entry with its index, modulo 2^16.
+/// Sets each entry to its index, modulo 2^16.
 fn fill_with_places(entries: &mut [Option<u16>])
     ensures full { All IsSome entries.new }
     ensures entries { (place : ℕ) → place < length entries.old
@@ -35,10 +35,10 @@ fn fill_with_places(entries: &mut [Option<u16>])
     }
 }
 
-/// Returns a copy of a frame in which the plane of an index is filled from these pixels, and whether the copy still equals
-/// the frame.
+/// Returns a copy of a frame in which the plane with an index is filled from `source`, and whether the copy still equals the
+/// frame.
 ///
-/// Where the frame has no such plane, or the plane another number of pixels, the copy is the frame.
+/// If the frame has no such plane, or if the plane has another number of pixels, the copy equals the frame.
 pub fn copy_with_plane<T: Pixel>(
     alloc: Global,
     frame: &Frame<T>,

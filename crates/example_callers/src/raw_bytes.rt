@@ -1,4 +1,4 @@
-//! Planes as bytes, for files and sockets: what they show is written out, and read in with a stride.
+//! Planes as bytes for files and sockets: the visible pixels are written, or read from bytes with a stride.
 ghost use Rattle.std.specs.Prelude.{◌≡◌, ◌++◌, ◌*◌, OnOk, OnErr, IfOk, length};
 ghost use Rattle.v_frame.specs.Prelude.{Copies, byte_list, height_of, packed_byte_copy, piece_fronts, row_major, strided_copy, table_of, width_of};
 
@@ -6,8 +6,8 @@ use std::alloc::{AllocError, Global};
 use v_frame::pixel::Pixel;
 use v_frame::plane::{CopyError, Plane};
 
-/// Appends the bytes of the visible pixels, row after row, each pixel with its low byte first. Where there is no memory for
-/// all of them, nothing is appended.
+/// Appends the bytes of the visible pixels, row by row from the top, each pixel in little-endian order. If the memory for all
+/// of them cannot be allocated, nothing is appended.
 pub fn append_bytes<T: Pixel>(plane: &Plane<T>, out: &mut Vec<u8>) -> Result<(), AllocError>
     ensures ok { OnOk result (out.new.items
         ≡ out.old.items ++ byte_list T.form (table_of plane.now)) }
@@ -21,7 +21,7 @@ pub fn append_bytes<T: Pixel>(plane: &Plane<T>, out: &mut Vec<u8>) -> Result<(),
     Ok(())
 }
 
-/// Returns how many bytes [`append_bytes`] appends: those of as many pixels as the rectangle has.
+/// Returns the number of bytes that [`append_bytes`] appends: the number of visible pixels times the size of a pixel in bytes.
 pub fn count_of_bytes<T: Pixel>(plane: &Plane<T>) -> usize
     ensures count { result
         ≡ plane.now.geometry.width * plane.now.geometry.height * T.form.size }
@@ -30,9 +30,10 @@ pub fn count_of_bytes<T: Pixel>(plane: &Plane<T>) -> usize
     plane.byte_len()
 }
 
-/// Fills the visible rectangle from bytes without tails, and appends what it then shows: the source, where it was accepted.
+/// Fills the visible rectangle from packed bytes, and appends the bytes of its pixels. After a successful copy, these are the
+/// bytes of the source.
 ///
-/// The outer error is an allocation failure. Then the plane may be filled already.
+/// The outer error means that memory could not be allocated. The plane may already be filled then.
 pub fn through_a_plane<T: Pixel>(
     plane: &mut Plane<T>,
     source: &[u8],
@@ -50,10 +51,10 @@ pub fn through_a_plane<T: Pixel>(
     Ok(copied)
 }
 
-/// Fills the visible rectangle from bytes with a stride, and appends what it then shows: the rows of the source without their
-/// tails, where it was accepted.
+/// Fills the visible rectangle from bytes with a stride, and appends the bytes of its pixels. After a successful copy, these
+/// are the rows of the source without the bytes between them.
 ///
-/// The outer error is an allocation failure. Then the plane may be filled already.
+/// The outer error means that memory could not be allocated. The plane may already be filled then.
 pub fn without_tails<T: Pixel>(
     plane: &mut Plane<T>,
     source: &[u8],

@@ -1,4 +1,4 @@
-//! Reads of planes, and one that fills a plane.
+//! Reads of planes, and a call that fills a plane.
 ghost use Rattle.std.specs.Prelude.{◌≡◌, ◌-◌, ◌*◌, ◌≤◌, ◌↔◌, IsTrue, Some, length, min, slice_get};
 ghost use Rattle.std.specs.Bool.{OnTrue, OnFalse};
 ghost use Rattle.v_frame.specs.Prelude.{alloc_size_of, isize_max, table_of, border_of, width_of, height_of, pixel_at, row_major};
@@ -15,7 +15,7 @@ pub fn first_pixel<T: Pixel>(plane: &Plane<T>) -> T
     plane.data()[plane.geometry().data_origin()]
 }
 
-/// Returns the bytes that the pixels of a plane take with its border.
+/// Returns the size of the buffer of a plane in bytes, including the border.
 pub fn buffer_bytes<T: Pixel>(plane: &Plane<T>) -> usize
     ensures value { result ≡ T.BYTES * alloc_size_of plane.now.geometry }
     ensures bound { result ≤ isize_max }
@@ -23,7 +23,7 @@ pub fn buffer_bytes<T: Pixel>(plane: &Plane<T>) -> usize
     T::BYTES * plane.geometry().alloc_size()
 }
 
-/// Returns the row `y`, or the last one where that is below the rectangle: what a filter reads at the lower edge.
+/// Returns row `y`, or the last row if `y` is larger. A filter reads this row at the lower edge.
 pub fn nearest_row<T>(plane: &Plane<T>, y: usize) -> &[T]
     ensures { slice_get (table_of plane.now) (min y (plane.now.geometry.height - 1))
         ≡ Some result.now }
@@ -31,8 +31,8 @@ pub fn nearest_row<T>(plane: &Plane<T>, y: usize) -> &[T]
     plane.visible_row(y.min(plane.height() - 1))
 }
 
-/// Fills the visible rectangle from packed pixels and returns whether it did: exactly where there is one for each visible pixel.
-/// Then the rows, joined, are these pixels.
+/// Fills the visible rectangle from packed pixels. Returns `false` and changes nothing unless `source` has one pixel for each
+/// visible pixel. After a success, the rows joined are these pixels.
 pub fn is_filled_from<T: Pixel>(plane: &mut Plane<T>, source: &[T]) -> bool
     ensures accepted { IsTrue result
         ↔ (length source.now ≡ width_of (table_of plane.old) * height_of (table_of plane.old)) }

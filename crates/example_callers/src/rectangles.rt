@@ -1,11 +1,11 @@
-//! Rectangles of planes, written row by row.
+//! Rectangles of planes that are written row by row.
 ghost use Rattle.std.specs.Prelude.{◌≡◌, ◌≢◌, ℕ, ◌+◌, ◌<◌, ◌≤◌, ◌⊎◌, List, Some, drop, length, reverse, slice_get, take};
 ghost use Rattle.v_frame.specs.Prelude.{KeepsBorder, table_of, with_item_by};
 ghost use Rattle.example_callers.specs.Rectangles.{with_pixels};
 
 use v_frame::plane::Plane;
 
-/// Writes the same pixels into each row of a rectangle, which begins at column `x` of row `y` and has `height` rows.
+/// Writes `pixels` into each row of a rectangle, which begins at column `x` of row `y` and has `height` rows.
 pub fn fill_rectangle<T: Copy>(
     plane: &mut Plane<T>,
     x: usize,
@@ -22,15 +22,15 @@ pub fn fill_rectangle<T: Copy>(
         → slice_get (table_of plane.new) k ≡ slice_get (table_of plane.old) k }
     ensures border { KeepsBorder plane.old plane.new }
 {
-    // A height that was read fits its type, and so does the sum that it bounds.
+    // A height that was read fits into its type, and so does the sum that it limits.
     let _rows = plane.height();
     for row in y..y + height {
         put_in_row(plane, x, row, pixels);
     }
 }
 
-/// Copies a rectangle of `width` by `height` pixels of the source, which begins at column `from_x` of row `from_y`, to column
-/// `x` of row `y` of a plane.
+/// Copies a rectangle of `width` by `height` pixels from `source` to `plane`. The rectangle begins at column `from_x` of row
+/// `from_y` in `source`, and at column `x` of row `y` in `plane`.
 pub fn blit<T: Copy>(
     plane: &mut Plane<T>,
     x: usize,
@@ -54,7 +54,7 @@ pub fn blit<T: Copy>(
         → slice_get (table_of plane.new) k ≡ slice_get (table_of plane.old) k }
     ensures border { KeepsBorder plane.old plane.new }
 {
-    // Heights that were read fit their type, and so do the sums that they bound.
+    // Heights that were read fit into their type, and so do the sums that they limit.
     let _rows = (plane.height(), source.height());
     for k in 0..height {
         let pixels = part_of_row(source, from_y + k, from_x, width);
@@ -62,7 +62,7 @@ pub fn blit<T: Copy>(
     }
 }
 
-/// `count` pixels of row `y`, from column `x` on.
+/// Returns `count` pixels of row `y`, from column `x` on.
 fn part_of_row<T>(plane: &Plane<T>, y: usize, x: usize, count: usize) -> &[T]
     requires high { y < plane.now.geometry.height }
     requires wide { x + count ≤ plane.now.geometry.width }
@@ -94,7 +94,7 @@ fn put_pixels<T: Copy>(row: &mut [T], x: usize, pixels: &[T])
     row[x..x + pixels.len()].copy_from_slice(pixels);
 }
 
-/// Mirrors a row: its last pixel becomes its first one.
+/// Mirrors a row: its last pixel becomes its first.
 pub fn mirror_row<T>(plane: &mut Plane<T>, y: usize)
     requires { y < plane.old.geometry.height }
     ensures table { let rows = table_of plane.old in

@@ -1,4 +1,4 @@
-//! Blocks of a plane, read without a copy.
+//! Blocks of a plane that are read without a copy.
 ghost use Rattle.std.specs.Prelude.{◌≡◌, ◌*◌, ◌==◌, ◌↔◌, IfSome, IsSome};
 ghost use Rattle.std.specs.List.{list_any};
 ghost use Rattle.v_frame.specs.Prelude.{IsInside, byte_list, rectangle, table_of};
@@ -6,7 +6,7 @@ ghost use Rattle.v_frame.specs.Prelude.{IsInside, byte_list, rectangle, table_of
 use v_frame::pixel::Pixel;
 use v_frame::plane::{ByteData, Plane, PlaneRef};
 
-/// Returns whether a block of a plane holds this pixel. `None` exactly where there is no such block.
+/// Returns whether a block of a plane holds `pixel`, or `None` if the plane has no such block.
 pub fn block_has_pixel(
     plane: &Plane<u8>,
     x: usize,
@@ -23,7 +23,7 @@ pub fn block_has_pixel(
     Some(block.rows().any(|row| row.contains(&pixel)))
 }
 
-/// Returns the bytes of a block, row after row: what a hash or a file takes of it. The block has to lie inside the plane.
+/// Returns the bytes of a block, row by row, for a hash or a file. The block must lie inside the plane.
 pub fn bytes_of_block<'a, T: Pixel>(
     plane: &PlaneRef<'a, T>,
     x: usize,

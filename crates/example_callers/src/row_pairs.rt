@@ -5,7 +5,7 @@ ghost use Rattle.example_callers.specs.RowPairs.{averages};
 
 use v_frame::plane::{Plane, visible_rows_mut};
 
-/// Exchanges two rows.
+/// Exchanges rows `y` and `z`. Row `y` must lie above row `z`.
 pub fn swap_rows<T: Copy>(plane: &mut Plane<T>, y: usize, z: usize)
     requires order { y < z }
     requires high { z < plane.old.geometry.height }
@@ -19,7 +19,7 @@ pub fn swap_rows<T: Copy>(plane: &mut Plane<T>, y: usize, z: usize)
     upper.swap_with_slice(lower);
 }
 
-/// Copies row `y` over row `z`, which lies below it.
+/// Copies row `y` over row `z`, which must lie below it.
 pub fn copy_row_down<T: Copy>(plane: &mut Plane<T>, y: usize, z: usize)
     requires order { y < z }
     requires high { z < plane.old.geometry.height }
@@ -33,7 +33,7 @@ pub fn copy_row_down<T: Copy>(plane: &mut Plane<T>, y: usize, z: usize)
     other.copy_from_slice(row);
 }
 
-/// Mixes each row with the one below it, half and half, rounded down: a shift by half a row. The last row stays.
+/// Mixes each row with the row below it, rounded down. This shifts the picture by half a row. The last row is unchanged.
 pub fn mix_rows_down(plane: &mut Plane<u8>)
     ensures mixed { (k : ℕ) (row below : List ℕ) → slice_get (table_of plane.old) k ≡ Some row
         → slice_get (table_of plane.old) (k + 1) ≡ Some below
@@ -47,7 +47,7 @@ pub fn mix_rows_down(plane: &mut Plane<u8>)
     }
 }
 
-/// Mixes each row with the one above it, half and half, rounded down: a shift by half a row. The first row stays.
+/// Mixes each row with the row above it, rounded down. This shifts the picture by half a row. The first row is unchanged.
 pub fn mix_rows_up(plane: &mut Plane<u8>)
     ensures mixed { (k : ℕ) (above row : List ℕ) → slice_get (table_of plane.old) k ≡ Some above
         → slice_get (table_of plane.old) (k + 1) ≡ Some row
@@ -61,8 +61,8 @@ pub fn mix_rows_up(plane: &mut Plane<u8>)
     }
 }
 
-/// Smooths a plane from top to bottom: each row becomes a mix of the one above it, twice itself and the one below it. At the
-/// edges, where one of these is missing, it is mixed with the other alone.
+/// Smooths a plane vertically: each row becomes a mix of the row above it, twice itself, and the row below it. The first and
+/// the last row are mixed with their only neighbor.
 pub fn smooth_rows(plane: &mut Plane<u8>)
     ensures inner { (k : ℕ) (above row below : List ℕ)
         → slice_get (table_of plane.old) k ≡ Some above
@@ -85,7 +85,7 @@ pub fn smooth_rows(plane: &mut Plane<u8>)
     mix_rows_up(plane);
 }
 
-/// Mixes row `y` with the one below it.
+/// Mixes row `y` with the row below it.
 fn mix_with_next(plane: &mut Plane<u8>, y: usize)
     requires { y + 1 < plane.old.geometry.height }
     ensures mixed { (row below : List ℕ) → slice_get (table_of plane.old) y ≡ Some row
@@ -100,7 +100,7 @@ fn mix_with_next(plane: &mut Plane<u8>, y: usize)
     mix(row, below);
 }
 
-/// Mixes row `y` with the one above it.
+/// Mixes row `y` with the row above it.
 fn mix_with_previous(plane: &mut Plane<u8>, y: usize)
     requires below_first { 0 < y }
     requires high { y < plane.old.geometry.height }
@@ -116,7 +116,7 @@ fn mix_with_previous(plane: &mut Plane<u8>, y: usize)
     mix(row, above);
 }
 
-/// Makes each pixel of a row the average of it and of the one beside it in the other row, rounded down.
+/// Sets each pixel of `row` to the average of this pixel and the pixel at the same index of `other`, rounded down.
 fn mix(row: &mut [u8], other: &[u8])
     requires { length row.old ≡ length other.now }
     ensures { row.new ≡ averages row.old other.now }

@@ -1,11 +1,11 @@
-//! Single pixels of a plane, changed in place.
+//! Single pixels of a plane that are changed in place.
 ghost use Rattle.std.specs.Prelude.{◌≡◌, ◌<◌, ◌≤◌, ◌⊎◌, Some};
 ghost use Rattle.v_frame.specs.Prelude.{table_of, pixel_at, with_pixel, KeepsBorder};
 
 use v_frame::pixel::Pixel;
 use v_frame::plane::Plane;
 
-/// Sets a pixel of the visible rectangle. Elsewhere nothing changes, the border neither.
+/// Sets the pixel in column `x` of row `y`. If this position is not visible, nothing changes. The border never changes.
 pub fn set_pixel<T: Copy>(plane: &mut Plane<T>, x: usize, y: usize, value: T)
     ensures border { KeepsBorder plane.old plane.new }
     ensures inside { x < plane.old.geometry.width → y < plane.old.geometry.height
@@ -22,7 +22,7 @@ pub fn set_pixel<T: Copy>(plane: &mut Plane<T>, x: usize, y: usize, value: T)
     *plane.visible_pixel_mut(x, y) = value;
 }
 
-/// Exchanges two pixels of the visible rectangle, each given by its column and its row.
+/// Exchanges two visible pixels, each given by its column and its row.
 pub fn exchange_pixels<T: Pixel>(
     plane: &mut Plane<T>,
     first: (usize, usize),

@@ -1,4 +1,4 @@
-//! A first frame: built, filled, written and read. README shows how a row is filled.
+//! A first frame: built, filled, written and read. README shows how to fill a row.
 ghost use Rattle.std.specs.Prelude.{◌≡◌, ◌<◌, [], ◌∷◌, Contains, IfErr, IfOk, IfSome, replicate, slice_set};
 ghost use Rattle.v_frame.specs.Prelude.{KeepsBorder, table_of};
 
@@ -7,8 +7,8 @@ use v_frame::chroma::ChromaSubsampling;
 use v_frame::frame::{Frame, FrameBuilder, FrameError};
 use v_frame::plane::Plane;
 
-/// Luma of 3 by 2 pixels beside 16 columns of border. It is filled from rows of four bytes, each three pixels and a tail,
-/// and then its first row is overwritten.
+/// Returns a frame with a luma plane of 3 by 2 pixels next to 16 columns of border. The plane is filled from rows of four
+/// bytes, each with three pixels and one more byte. Then its first row is overwritten.
 pub fn first_frame(alloc: Global) -> Result<Frame<u8>, FrameError>
     ensures shown { IfOk result (λ frame. table_of frame.y_plane
         ≡ (9 ∷ 9 ∷ 9 ∷ []) ∷ (40 ∷ 50 ∷ 60 ∷ []) ∷ []) }
@@ -24,7 +24,7 @@ pub fn first_frame(alloc: Global) -> Result<Frame<u8>, FrameError>
     Ok(frame)
 }
 
-/// Fills a visible row with one pixel. All else of the plane stays, its border too.
+/// Sets all pixels of visible row `y` to `pixel`. Everything else in the plane is unchanged, including the border.
 pub fn fill_row(plane: &mut Plane<u8>, y: usize, pixel: u8)
     requires { y < plane.old.geometry.height }
     ensures table { table_of plane.new
@@ -34,7 +34,7 @@ pub fn fill_row(plane: &mut Plane<u8>, y: usize, pixel: u8)
     plane.visible_row_mut(y).fill(pixel);
 }
 
-/// Returns a visible row that holds this pixel, where the loop finds one.
+/// Returns a visible row that holds `pixel`, or `None` if the loop finds no such row.
 pub fn row_with(plane: &Plane<u8>, pixel: u8) -> Option<&[u8]>
     ensures shown { IfSome result (λ row. Contains (table_of plane.now) row.now) }
     ensures holds { IfSome result (λ row. Contains row.now pixel) }

@@ -1,4 +1,4 @@
-//! Streams of frames as headerless raw video: copied, changed on their way, and read back.
+//! Streams of frames as raw video without headers: copied, changed while they are copied, and read back.
 ghost use Rattle.std.specs.Prelude.{◌≡◌, ◌<◌, ◌≤◌, IfOk, OnOk};
 ghost use Rattle.std.specs.Io.KnownBytes.{IsAtEnd};
 ghost use Rattle.v_frame.specs.Prelude.{one_byte, tables_of, KeepsBorders};
@@ -13,8 +13,8 @@ use v_frame::pixel::Pixel;
 use v_frame_planar::laws::same_sizes_same_byte_count;
 use v_frame_planar::{Counted, PlanarError, read_frame, write_frame};
 
-/// Copies the frames of a stream to another one, so many at most, and counts them. Each is of the size of `frame`, which
-/// shows the last of them.
+/// Copies at most `most` frames from one stream to another, and returns their number. Each has the size of `frame`, which shows
+/// the last of them afterwards.
 pub fn copy_frames<T: Pixel, R: io::Read, W: io::Write>(
     alloc: Global,
     reader: &mut Counted<R>,
@@ -37,7 +37,7 @@ pub fn copy_frames<T: Pixel, R: io::Read, W: io::Write>(
     Ok(most)
 }
 
-/// The same for frames of bytes, with the luma of each made brighter on its way.
+/// Copies at most `most` frames as [`copy_frames`] does, and increases each luma pixel by `by`.
 pub fn brighten_frames<R: io::Read, W: io::Write>(
     alloc: Global,
     reader: &mut Counted<R>,
@@ -62,8 +62,8 @@ pub fn brighten_frames<R: io::Read, W: io::Write>(
     Ok(most)
 }
 
-/// Writes what a frame shows into memory, and reads it back into another one, which shows it where their planes have the
-/// same sizes.
+/// Writes the visible pixels of `from` into memory, and reads them back into `to`. If the planes of both frames have equal
+/// sizes, `to` shows the same pixels as `from` afterwards.
 pub fn through_memory<T: Pixel>(
     alloc: Global,
     from: &Frame<T>,
@@ -81,7 +81,7 @@ pub fn through_memory<T: Pixel>(
     Ok(())
 }
 
-/// Returns the bytes that a frame is written as.
+/// Returns the bytes as which a frame is written.
 fn bytes_of_frame<T: Pixel>(alloc: Global, frame: &Frame<T>) -> Result<Vec<u8>, PlanarError>
     ensures { IfOk result (λ bytes. bytes.items ≡ planar_bytes T.form (tables_of frame.now)) }
 {

@@ -1,4 +1,4 @@
-//! Video of any size, read from a stream, and written with the cause reported where that fails.
+//! Video of any size that is read from a stream, and video that is written with the cause of any failure reported.
 ghost use Rattle.std.specs.Prelude.{◌≡◌, ◌⊎◌, Some, IfErr, IfOk, IfSome, IsNone, OnOk};
 ghost use Rattle.std.specs.Io.KnownBytes.{Appends, Consumes, IsAtEnd};
 ghost use Rattle.std.specs.declared.io.ErrorKind.TheVariants.{WriteZero};
@@ -13,16 +13,16 @@ use v_frame::frame::{Frame, FrameError};
 use v_frame::pixel::Pixel;
 use v_frame_planar::{Counted, PlanarError, read_frame, video_frame, write_frame};
 
-/// Why there is no first picture.
+/// The reason why there is no first picture.
 #[derive(Debug, PartialEq, Eq, Drop)]
 pub enum VideoFault {
-    /// No frame was made.
+    /// The frame could not be built.
     Frame(FrameError),
-    /// The picture was not read.
+    /// The picture could not be read.
     Planar(PlanarError),
 }
 
-/// Returns the first picture of a stream of 8-bit 4:2:0 pictures of this size, odd or not. `None` at the end of the stream.
+/// Returns the first picture of a stream of 8-bit 4:2:0 pictures, or `None` at the end of the stream. The size may be odd.
 pub fn first_picture<R: io::Read>(
     alloc: Global,
     reader: &mut Counted<R>,
@@ -50,7 +50,7 @@ pub fn first_picture<R: io::Read>(
     Ok(read.then_some(frame))
 }
 
-/// Writes a frame. Where a write failed, the cause is reported, and where one took nothing, `WriteZero`.
+/// Writes a frame. If a write fails, its cause is returned. If a write takes no bytes, `WriteZero` is returned.
 pub fn write_or_cause<T: Pixel, W: io::Write>(
     writer: &mut Counted<W>,
     frame: &Frame<T>,
@@ -66,7 +66,7 @@ pub fn write_or_cause<T: Pixel, W: io::Write>(
     }
 }
 
-/// Writes a frame through a buffered writer, and sends it on its way.
+/// Writes a frame through a buffered writer, and flushes it.
 pub fn write_and_flush<T: Pixel, W: io::Write>(
     writer: &mut Counted<W>,
     frame: &Frame<T>,

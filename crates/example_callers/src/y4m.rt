@@ -1,4 +1,4 @@
-//! YUV4MPEG2 streams copied: the header line, and then frame by frame.
+//! YUV4MPEG2 streams that are copied: first the header line, and then frame by frame.
 ghost use Rattle.std.specs.Prelude.{◌≡◌, ◌++◌, ◌∷◌, [], true, codes, IfOk};
 ghost use Rattle.std.specs.Io.KnownBytes.{Appends};
 ghost use Rattle.v_frame.specs.Prelude.{tables_of};
@@ -14,7 +14,7 @@ use v_frame::pixel::Pixel;
 use v_frame_planar::Counted;
 use v_frame_y4m::{StreamHeader, Y4mError, read_frame, read_header, write_frame, write_header};
 
-/// Copies the header line of a stream, with its parameters in the order in which they are written, and gives what it says.
+/// Copies the header line of a stream, and returns its contents. Its parameters are written in a fixed order.
 pub fn copy_header<R: io::Read, W: io::Write>(
     alloc: Global,
     reader: &mut Counted<R>,
@@ -29,7 +29,7 @@ pub fn copy_header<R: io::Read, W: io::Write>(
     Ok(header)
 }
 
-/// Copies a frame. `false` where the reader stood at its end.
+/// Copies a frame. Returns `false` if the stream was at its end.
 pub fn copy_frame<T: Pixel, R: io::Read, W: io::Write>(
     alloc: Global,
     reader: &mut Counted<R>,

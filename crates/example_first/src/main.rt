@@ -1,4 +1,4 @@
-//! Builds a frame, fills one row of its luma plane, and prints what luma shows.
+//! Builds a frame, fills one row of its luma plane, and prints the rows of this plane.
 #![tactic(auto)]
 
 use std::io;

@@ -1,11 +1,11 @@
-//! Why the program gave up.
+//! The errors of the program.
 
 use std::io;
 use thiserror::Error;
 use v_frame::frame::FrameError;
 use v_frame_planar::PlanarError;
 
-/// An error of the arguments, of `build`, of a frame that is read or written, or of a file that is opened.
+/// An error in the arguments, in building the frame, in reading or writing a frame, or in opening a file.
 #[derive(Debug, Drop, Error)]
 pub enum HalveError {
     #[error("usage: example_halve WIDTH HEIGHT FILE..")]

@@ -1,4 +1,4 @@
-//! Streams of frames whose luma is halved on its way.
+//! Streams of frames whose luma pixels are halved while they are copied.
 ghost use Rattle.std.specs.Prelude.{◌≡◌, ◌/◌};
 ghost use Rattle.v_frame.specs.Prelude.{KeepsBorders, table_of, tables_of, with_table};
 ghost use Rattle.v_frame_ops.specs.Prelude.{mapped};
@@ -10,7 +10,7 @@ use v_frame::frame::Frame;
 use v_frame_ops::map_pixels;
 use v_frame_planar::{Counted, read_frame, write_frame};
 
-/// Reads the frames of a stream to its end, and writes each with its luma halved.
+/// Reads the frames of a stream to its end, and writes each frame with its luma pixels halved.
 pub fn halve_stream<R: io::Read + Drop, W: io::Write>(
     alloc: Global,
     input: R,
@@ -30,7 +30,7 @@ pub fn halve_stream<R: io::Read + Drop, W: io::Write>(
     Ok(())
 }
 
-/// Halves each luma pixel, rounded down. Chroma stays, and so do all borders.
+/// Halves the value of each luma pixel, rounded down. Chroma and all borders are unchanged.
 pub fn halve_luma(frame: &mut Frame<u8>)
     ensures tables { tables_of frame.new ≡ with_table (tables_of frame.old) 0
         (mapped (mapped (λ pixel. pixel / 2)) (table_of frame.old.y_plane)) }

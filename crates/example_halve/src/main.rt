@@ -1,6 +1,7 @@
-//! Halves the luma of raw video: `example_halve WIDTH HEIGHT FILE..`, where `-` is standard input.
+//! Halves the luma pixels of raw video: `example_halve WIDTH HEIGHT FILE..`, where `-` is standard input.
 //!
-//! The frames are 4:2:0 of 8 bits, headerless. Those of all files are written to standard output, one after the other.
+//! The files must hold 4:2:0 frames of 8 bits without headers. The frames of all files are written to standard output, one file
+//! after another.
 #![tactic(auto)]
 
 mod error;
@@ -37,13 +38,13 @@ fn run(rt: &HostRuntime) -> Result<(), HalveError> {
     Ok(())
 }
 
-/// Returns a frame of this size, into which each frame of a file is read.
+/// Returns a frame of this size. Each frame of a file is read into it.
 fn frame_of(rt: &HostRuntime, width: usize, height: usize) -> Result<Frame<u8>, HalveError> {
     let builder = FrameBuilder::new(width, height, ChromaSubsampling::Yuv420, 8);
     Ok(builder.build::<u8>(rt.alloc())?)
 }
 
-/// Halves one file, or standard input where the name is `-`.
+/// Halves one file, or standard input if the name is `-`.
 fn halve_file<W: std::io::Write>(
     rt: &HostRuntime,
     name: &str,
@@ -57,7 +58,7 @@ fn halve_file<W: std::io::Write>(
     }
 }
 
-/// Returns the number that an argument says.
+/// Returns the number in an argument.
 fn number(word: Option<String>) -> Result<usize, HalveError> {
     let word = word.ok_or(HalveError::Usage)?;
     word.parse::<usize>().map_err(|_| HalveError::Usage)

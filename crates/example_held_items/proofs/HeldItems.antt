@@ -1,7 +1,7 @@
--- Steps of a proof by hand of a function that holds what a writing iterator lends, rows or pixels: see
+-- Steps of a hand-written proof of a function that keeps rows or pixels that a writing iterator lends: see
 -- `ItemKinds.antt`. Assumes `Logic`.
---     draws_item      a call of `next` or `next_back` on an iterator in a local, and the item that it gives, if any
---     takes_arm, takes_other      the first arm of a `match` is that of an item, and the second that of none
+-- - draws_item: a call of `next` or `next_back` on an iterator in a local, and the item that it yields, if any.
+-- - takes_arm, takes_other: the first arm of a `match` is for an item, and the second for none.
 use Rattle.v_frame_buffer.proofs.Steps.{Is, Item, Lft, List, MakesProgress, MutBor, MutRef, MutSlice, NamedLft, Option}
 use Rattle.v_frame_buffer.proofs.Steps.{Val, YieldsFirstMut, YieldsLastMut, ap, drop, exec, fact, flft, framed, heard}
 use Rattle.v_frame_buffer.proofs.Steps.{id⊢, item_count, live, meet_⊑_right, move, named, of_list, only, param, raw}
@@ -37,7 +37,7 @@ module _ {M : Type 1} {𝓤 : Ura M} {𝓛 : Logic 𝓤} {K : Type 0} {Γ : List
   takes_other t is_none = step (λ k. switches_on t is_none $ exec t C Λ E taken q $ k)
 
 module _ (T : RattleType) where
-  -- what a call from a side gives and leaves
+  -- The item that a call from a side yields, and the iterator afterwards.
   abbrev pub Yields : (k : Kind) → Side → Walk T k → Option (MutBor (Entry T k)) → Walk T k → Type 0
   Yields k Front = YieldsFirstMut (left T k)
   Yields k Back = YieldsLastMut (left T k)
@@ -47,8 +47,8 @@ module _ {M : Type 1} {𝓤 : Ura M} (𝓛 : Logic 𝓤) (𝓜 : Model 𝓤 𝓛
   abbrev 𝓣 : MachineTables 𝓤 𝓛.H 𝓜
   𝓣 = tables 𝓤 𝓛.H 𝓜 𝓡 𝓡.env
 
-  -- [its cell; the iterator; its token; the token of κT], and then [its cell; the item, if any; the iterator; its
-  -- token; how it was drawn; the token of κT]
+  -- Context before the call: [its cell; the iterator; its token; the token of κT]. Context after it: [its cell; the
+  -- item, if any; the iterator; its token; how it was drawn; the token of κT].
   abbrev Draws : Kind → Side → Type 2
   Draws neither side = Unit {2}
   Draws k side = (K : Type 0) (Γ : List (Item 𝓤)) (E : Env 𝓤 𝓛.H) (p : Post 𝓤 𝓛.H) (f : Callee) (x : Operand)

@@ -1,7 +1,8 @@
--- For a proof by hand of a function that holds pixels of a writing iterator: the pixels as they are written and as they
--- end. Assumes `Logic`.
---     ends_of      what three calls take of some pixels, written over
--- writes_pixel      a held pixel is written.        gives_back      it is dropped, and ends where the call took it from
+-- Steps of a hand-written proof of a function that keeps pixels of a writing iterator: the pixels as they are
+-- written, and their final values. Assumes `Logic`.
+-- - ends_of: the pixels that three calls take, overwritten.
+-- - writes_pixel: a kept pixel is written.
+-- - gives_back: a kept pixel is dropped, and its final value is at the position from which the call took it.
 use Rattle.v_frame_buffer.proofs.Steps.{◌≡◌, ◌-◌, List, [], ◌∷◌, ◌++◌, length, Some, MutBor, refl, sym, ap, ◌∙◌, arith}
 use Rattle.v_frame_buffer.proofs.Steps.{append-nil, append_assoc, length-append, map, nil_from_length, Lft, Share, fat}
 use Rattle.v_frame_buffer.proofs.Steps.{flft, full_share, SProp, ent, sep, RattleType, MutRef, mut_vals, closes, named}
@@ -20,7 +21,7 @@ use Rattle.v_frame.specs.{declared.replay.draw.Side.TheVariants.Back, declared.r
 use Rattle.v_frame_buffer.proofs.{Loans.at_one, Loans.opens_self}
 use Rattle.example_held_items.specs.{HeldPixels.with_ends}
 
--- three calls, from the back, the front and the back, take the last, the first and the last but one
+-- Three calls, from the back, the front and the back, take the last pixel, the first pixel and the last but one.
 pub ends_of : {X : Type 0} (pixels one two three : List X) (a b c x y z : X) → pixels ≡ one ++ c ∷ [] → one ≡ a ∷ two →
     two ≡ three ++ b ∷ []
     → (x ∷ (three ++ y ∷ [])) ++ z ∷ [] ≡ with_ends x y z pixels
@@ -42,7 +43,7 @@ module _ {M : Type 1} {𝓤 : Ura M} (𝓛 : Logic 𝓤) (T : RattleType) (old n
   given_back Back = at_one 𝓛 Held (λ held. sem 𝓛 (FinalItems T of_pixels old (held.1 ++ held.0 ∷ []))) (x, second)
 
 module _ {M : Type 1} {𝓤 : Ura M} {𝓛 : Logic 𝓤} {K : Type 0} {Γ : List (Item 𝓤)} {G : Goal 𝓤 𝓛.H} where
-  -- [the pixel; how it was drawn; how the iterator ends that was left]
+  -- Context: [the pixel; how it was drawn; the final values of the iterator that was left].
   pub gives_back : K → (side : Side) (T : RattleType) (κ : Lft) (old new : PixelsMut T.Denot) (pixel : MutBor T.Denot)
       (x : T.Denot) (second : List T.Denot) →
       Step K 𝓛 (‵ (FinalItems T of_pixels old (put_back side (λ _. x) (Some pixel.now) second)) ∷ Γ) G
@@ -59,7 +60,7 @@ module _ {M : Type 1} {𝓤 : Ura M} {𝓛 : Logic 𝓤} {K : Type 0} {Γ : List
 module _ {M : Type 1} {𝓤 : Ura M} {𝓛 : Logic 𝓤} {K : Type 0} {Γ : List (Item 𝓤)} {E : Env 𝓤 𝓛.H} {C : Calls 𝓤 𝓛.H}
     {Λ : Loops 𝓤 𝓛.H} {p : Post 𝓤 𝓛.H} {d :
     Place} {rv : RValue} {rest : Code} where
-  -- [the pixel; its token; what is written]
+  -- Context: [the pixel; its token; the value to write].
   pub writes_pixel : K → (T : RattleType) (copy : IsCopy T) (κ : Lft) (q : Share) (pixel : MutBor T.Denot)
       (x : T.Denot) →
       let item = param 0 T in let Γ' = λ (i j l m n : Item 𝓤). i ∷ j ∷ l ∷ m ∷ n ∷ Γ in let Pixel = MutRef (named 1) κ
@@ -84,6 +85,6 @@ module _ {M : Type 1} {𝓤 : Ura M} {𝓛 : Logic 𝓤} {K : Type 0} {Γ : List
       assigns t (reads _ _ _ _ _) (finds _ _ _ _ _) (store t 0 refl ok) $
       use1 𝓛 (‵ (cell_at full_share item.mir (copy.val x ∷ []) b o))
       (𝓛.laws.at_raw full_share (layout T) b o (copy.val x)) $
-      -- [its cell; the open borrow, in three; what it owns]
+      -- Context: [its cell; the open borrow, in three parts; its resources]
       move t (0 ∷ 4 ∷ []) $ closes t tt item x (copy.val x ∷ []) b o $ feq_i t (List Val) (mut_vals pixel)
       (mut_vals pixel) refl $ fjoin3 t $ k)

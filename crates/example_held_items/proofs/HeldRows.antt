@@ -1,6 +1,6 @@
 -- Lists, for proofs of functions that fill rows.
--- filled_more     a row that is filled so far        last_filled     a table whose last row is put back as it was
--- filled
+-- - filled_more: a row that is filled so far.
+-- - last_filled: a table whose last row is put back after it was filled.
 use Rattle.std.proofs.Common.{ℕ, ◌≡◌, ◌+◌, ◌-◌, ◌<◌, ◌∙◌, suc, zero, All, List, [], ◌∷◌, ◌++◌, length, map, drop}
 use Rattle.std.proofs.Common.{replicate, slice_set, Some, refl, sym, ap, arith}
 use Rattle.std.proofs.lemmas.List.{length-replicate, map-append, set_at}

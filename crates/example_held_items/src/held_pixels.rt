@@ -1,7 +1,7 @@
-//! Pixels of a plane that are held while the iterator gives others, and written once the iterator is dropped.
+//! Pixels of a plane that are kept while the iterator yields others, and written after the iterator is dropped.
 //!
-//! What the plane holds in the end is proved by hand, in `proofs/held_pixels/write_ends`. A caller of such a function needs no
-//! proof.
+//! The hand-written proof in `proofs/held_pixels/write_ends` shows which pixels the plane has at the end. A caller of such a
+//! function needs no proof.
 ghost use Rattle.std.specs.Prelude.{◌<◌, ◌≡◌, length};
 ghost use Rattle.v_frame.specs.Prelude.{KeepsBorder, row_major, table_of};
 ghost use Rattle.example_held_items.specs.HeldPixels.{with_ends};
@@ -10,10 +10,10 @@ use v_frame::laws::dropped_pixels_keep_their_values;
 use v_frame::pixel::Pixel;
 use v_frame::plane::Plane;
 
-/// Writes the first visible pixel and the last two. All others stay, and so does the border.
+/// Writes the first visible pixel and the last two. All other pixels and the border are unchanged.
 ///
-/// The three are taken from both ends in turn, are held, and are written in another order than they were taken, the first one
-/// twice.
+/// The three pixels are taken from both ends alternately, and are kept. They are written in a different order from the one in
+/// which they were taken, and the first pixel is written twice.
 pub fn write_ends<T: Copy>(plane: &mut Plane<T>, first: T, before_last: T, last: T)
     requires { 2 < length (row_major (table_of plane.old)) }
     ensures pixels { row_major (table_of plane.new)
@@ -35,7 +35,7 @@ pub fn write_ends<T: Copy>(plane: &mut Plane<T>, first: T, before_last: T, last:
     dropped_pixels_keep_their_values::<T>();
 }
 
-/// Writes `mark` over the first visible pixel and the last, and `other` over the last but one.
+/// Writes `mark` over the first and the last visible pixel, and `other` over the last but one.
 pub fn mark_ends<T: Pixel>(plane: &mut Plane<T>, mark: T, other: T)
     requires { 2 < length (row_major (table_of plane.old)) }
     ensures pixels { row_major (table_of plane.new)

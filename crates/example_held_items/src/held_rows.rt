@@ -1,13 +1,13 @@
-//! A row that an iterator lends from the end of a plane, written.
+//! A row that an iterator lends from the end of a plane, and that is written.
 //!
-//! What the plane holds in the end is proved by hand, in `proofs/held_rows/fill_last_row`.
+//! The hand-written proof in `proofs/held_rows/fill_last_row` shows which pixels the plane has at the end.
 ghost use Rattle.std.specs.Prelude.{◌≡◌, ◌-◌, length, replicate, slice_set};
 ghost use Rattle.v_frame.specs.Prelude.{KeepsBorder, height_of, table_of};
 
 use v_frame::laws::held_rows_are_the_table;
 use v_frame::plane::Plane;
 
-/// Fills the last visible row with one value. All other rows stay, and so does the border.
+/// Fills the last visible row with one value. All other rows and the border are unchanged.
 pub fn fill_last_row<T: Copy>(plane: &mut Plane<T>, value: T)
     ensures table { table_of plane.new
         ≡ slice_set (table_of plane.old) (height_of (table_of plane.old) - 1)
@@ -21,7 +21,7 @@ pub fn fill_last_row<T: Copy>(plane: &mut Plane<T>, value: T)
     held_rows_are_the_table::<T>();
 }
 
-/// Fills a row with one value. The standard `fill` asks for a `clone` that cannot fail, which `Copy` does not promise.
+/// Fills a row with one value. The standard `fill` requires a `clone` that cannot fail, which `Copy` does not guarantee.
 fn fill<T: Copy>(row: &mut [T], value: T)
     ensures { row.new ≡ replicate (length row.old) value }
 {

@@ -1,6 +1,6 @@
 -- A picture in the middle of a larger one.
 use Rattle.std.specs.Prelude.{ℕ, ◌-◌, ◌/◌}
 
--- how many columns or rows are before a picture that is centered, where there are so many
+-- The number of columns to the left of a centered picture, or the number of rows above it.
 abbrev pub before : ℕ → ℕ → ℕ
 before whole part = (whole - part) / 2

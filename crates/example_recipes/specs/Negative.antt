@@ -4,14 +4,15 @@ use Rattle.v_frame.specs.Prelude.{PixelForm, Table, Tables}
 use Rattle.v_frame_ops.specs.Prelude.{mapped}
 
 module _ {T : Type 0} (form : PixelForm T) (peak : T) where
-  -- the largest value less that of a sample, and 0 where that is larger
+  -- The largest value minus the value of a sample, or 0 if the sample has a larger value.
   abbrev pub negative_pixel : T → T
   negative_pixel pixel = form.pixel_of (form.value peak - form.value pixel)
 
-  -- that of each sample of a plane, and of each plane of a frame
+  -- The negative of each sample of a plane.
   abbrev pub negative_table : Table T → Table T
   negative_table rows = mapped (mapped negative_pixel) rows
 
+  -- The negative of each plane of a frame.
   abbrev pub negative_tables : Tables T → Tables T
   negative_tables tables =
       record {

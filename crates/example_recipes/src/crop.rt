@@ -1,4 +1,4 @@
-//! A part of a picture, in a plane of its own.
+//! A part of a picture, copied into a plane.
 ghost use Rattle.std.specs.Prelude.{◌≡◌, ◌+◌, ◌<◌, ◌≤◌, ℕ};
 ghost use Rattle.v_frame.specs.Prelude.{KeepsBorder, pixel_at, table_of};
 
@@ -7,7 +7,7 @@ use v_frame::plane::{Plane, PlaneRef};
 use v_frame_ops::copy_region;
 use v_frame_ops::laws::rectangles_hold_pixels;
 
-/// Shows in a plane the part of a picture that begins at column `x` of row `y`, and is as large as the plane.
+/// Copies a rectangle of `picture` into `plane`. The rectangle begins at column `x` of row `y`, and has the size of `plane`.
 pub fn crop<T: Pixel>(picture: &PlaneRef<'_, T>, x: usize, y: usize, plane: &mut Plane<T>)
     requires wide { x + plane.old.geometry.width ≤ picture.now.geometry.width }
     requires high { y + plane.old.geometry.height ≤ picture.now.geometry.height }

@@ -1,4 +1,4 @@
-//! Frames of 8 bits, turned by 90 degrees clockwise and shown in 10 bits.
+//! Frames of 8 bits, rotated clockwise by 90 degrees and converted to 10 bits.
 ghost use Rattle.std.specs.Prelude.{◌≡◌, ◌↔◌, false, option_map, IfErr, IsTrue, OnErr, OnOk};
 ghost use Rattle.v_frame.specs.Prelude.{border_and_geometry, table_of, tables_of, KeepsBorder, KeepsBorders};
 ghost use Rattle.v_frame_turn.specs.Frames.{BothFit};
@@ -12,23 +12,26 @@ use v_frame_convert::map_into;
 use v_frame_turn::frames::turn_frame;
 use v_frame_turn::{Turn, TurnError};
 
-/// Why a frame was not turned and deepened.
+/// The reason why a frame was not rotated and converted.
 #[derive(Debug, Drop, Error)]
 pub enum DeepenError {
-    /// It can't be turned by 90 degrees, or not into the frame between.
+    /// The frame cannot be rotated by 90 degrees, or does not fit into the intermediate frame.
     #[error(transparent)]
     Turn(TurnError),
-    /// The deeper frame has planes of other sizes.
+    /// The planes of the 10-bit frame have the wrong sizes.
     #[error("the planes of the deeper frame have other sizes")]
     DifferentSize,
 }
 
-/// Turns a frame of 8 bits by 90 degrees clockwise and shows it in 10 bits. `between` holds it turned, in 8 bits.
+/// Rotates a frame of 8 bits clockwise by 90 degrees and converts it to 10 bits. `between` receives the rotated frame in 8
+/// bits.
 ///
 /// # Errors
 ///
-/// [`DeepenError::Turn`] where the frame can't be turned into `between`, and [`DeepenError::DifferentSize`] where the planes
-/// of `target` have not the sizes of the turned ones. Then `target` stays.
+/// - [`DeepenError::Turn`] if the frame cannot be rotated into `between`.
+/// - [`DeepenError::DifferentSize`] if the planes of `target` do not have the sizes of the rotated planes.
+///
+/// After an error, `target` is unchanged.
 pub fn turn_and_deepen(
     source: &Frame<u8>,
     between: &mut Frame<u8>,
@@ -47,7 +50,7 @@ pub fn turn_and_deepen(
     Ok(())
 }
 
-/// Shows a frame of 8 bits in 10.
+/// Converts a frame of 8 bits to 10 bits.
 fn deepen_frame(source: &Frame<u8>, target: &mut Frame<u16>)
     requires { HaveOneSize source.now target.old }
     ensures tables { tables_of target.new ≡ turned_tables deepened (tables_of source.now) }
@@ -58,7 +61,7 @@ fn deepen_frame(source: &Frame<u8>, target: &mut Frame<u16>)
     deepen_chroma(&source.v_plane, &mut target.v_plane);
 }
 
-/// Shows a chroma plane of 8 bits in 10, where it is there.
+/// Converts a chroma plane of 8 bits to 10 bits, if there is one.
 fn deepen_chroma(source: &Option<Plane<u8>>, target: &mut Option<Plane<u16>>)
     requires { BothFit false source.now target.old }
     ensures table { option_map table_of target.new ≡ option_map deepened (option_map table_of source.now) }
@@ -70,7 +73,7 @@ fn deepen_chroma(source: &Option<Plane<u8>>, target: &mut Option<Plane<u16>>)
     }
 }
 
-/// Shows a plane of 8 bits in 10: each value times 4.
+/// Converts a plane of 8 bits to 10 bits: each value is multiplied by 4.
 fn deepen_plane(source: &PlaneRef<'_, u8>, target: &mut Plane<u16>)
     requires { PlaneFits false source.now target.old }
     ensures table { table_of target.new ≡ deepened (table_of source.now) }
@@ -79,7 +82,7 @@ fn deepen_plane(source: &PlaneRef<'_, u8>, target: &mut Plane<u16>)
     map_into(source, target, |value: u8| u16::from(value) * 4);
 }
 
-/// Returns whether two frames have the same planes, each of one size in both.
+/// Returns whether the two frames have the same planes with the same sizes.
 fn have_one_size(source: &Frame<u8>, target: &Frame<u16>) -> bool
     ensures { IsTrue result ↔ HaveOneSize source.now target.now }
 {
@@ -88,7 +91,7 @@ fn have_one_size(source: &Frame<u8>, target: &Frame<u16>) -> bool
         && chroma_has_one_size(&source.v_plane, &target.v_plane)
 }
 
-/// Returns whether two chroma planes have one size, or both are absent.
+/// Returns whether two chroma planes have the same size, or are both absent.
 fn chroma_has_one_size(source: &Option<Plane<u8>>, target: &Option<Plane<u16>>) -> bool
     ensures { IsTrue result ↔ BothFit false source.now target.now }
 {
@@ -99,7 +102,7 @@ fn chroma_has_one_size(source: &Option<Plane<u8>>, target: &Option<Plane<u16>>) 
     }
 }
 
-/// Returns whether two planes have one size.
+/// Returns whether two planes have the same size.
 fn planes_have_one_size(source: &Plane<u8>, target: &Plane<u16>) -> bool
     ensures { IsTrue result ↔ PlaneFits false source.now target.now }
 {

@@ -7,8 +7,8 @@ use v_frame::pixel::Pixel;
 use v_frame::plane::{Plane, PlaneRef};
 use v_frame_ops::{copy_region, fill};
 
-/// Shows a picture in the middle of a plane, and this value in the bars above, below and on both sides. Black in limited
-/// range is 16 of luma and 128 of chroma.
+/// Copies `picture` into the middle of `plane`, and fills the bars above, below and on both sides with `bars`. In limited
+/// range, black is 16 for luma and 128 for chroma.
 pub fn letterbox<T: Pixel>(picture: &PlaneRef<'_, T>, plane: &mut Plane<T>, bars: T)
     requires wide { picture.now.geometry.width ≤ plane.old.geometry.width }
     requires high { picture.now.geometry.height ≤ plane.old.geometry.height }

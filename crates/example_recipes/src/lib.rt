@@ -1,6 +1,6 @@
-//! Recipes: small functions for what people do with video, each with a contract. `docs/RECIPES.md` shows them.
+//! Recipes: small functions for common video tasks, each with a contract. `docs/RECIPES.md` shows them.
 //!
-//! They rest on the public contracts alone, and are there to be copied. Our own.
+//! They use only public contracts, and are meant to be copied. Not part of `v_frame` 0.7.0.
 #![tactic(auto)]
 
 pub mod crop;

@@ -1,4 +1,4 @@
-//! A filter that changes luma and chroma, at any bit depth: the negative of a picture.
+//! A filter that changes luma and chroma at any bit depth: the negative of a picture.
 ghost use Rattle.std.specs.Prelude.{◌≡◌, ◌-◌, ◌^◌, option_map};
 ghost use Rattle.v_frame.specs.Prelude.{border_and_geometry, table_of, tables_of, KeepsBorder, KeepsBorders};
 ghost use Rattle.example_recipes.specs.Negative.{negative_table, negative_tables};
@@ -11,7 +11,7 @@ use v_frame::plane::Plane;
 use v_frame_ops::map_pixels;
 use v_frame_streams::{MAX_PIXELS, Picture, Sink, Source, StreamError};
 
-/// Makes each sample of a frame the largest value less itself, in luma and in chroma.
+/// Replaces each luma and chroma sample of a frame by `peak` minus the sample, or by 0 if the sample is larger than `peak`.
 pub fn negate<T: Pixel>(frame: &mut Frame<T>, peak: T)
     ensures tables { tables_of frame.new ≡ negative_tables T.form peak (tables_of frame.old) }
     ensures borders { KeepsBorders frame.old frame.new }
@@ -21,7 +21,7 @@ pub fn negate<T: Pixel>(frame: &mut Frame<T>, peak: T)
     negate_chroma(&mut frame.v_plane, peak);
 }
 
-/// The same of one plane.
+/// Replaces each sample of a plane by `peak` minus the sample, or by 0 if the sample is larger than `peak`.
 fn negate_plane<T: Pixel>(plane: &mut Plane<T>, peak: T)
     ensures table { table_of plane.new ≡ negative_table T.form peak (table_of plane.old) }
     ensures border { KeepsBorder plane.old plane.new }
@@ -31,7 +31,7 @@ fn negate_plane<T: Pixel>(plane: &mut Plane<T>, peak: T)
     });
 }
 
-/// The same of a chroma plane, where it is there.
+/// Replaces each sample of a chroma plane by its negative, if there is a plane.
 fn negate_chroma<T: Pixel>(plane: &mut Option<Plane<T>>, peak: T)
     ensures table { option_map table_of plane.new
         ≡ option_map (negative_table T.form peak) (option_map table_of plane.old) }
@@ -43,7 +43,7 @@ fn negate_chroma<T: Pixel>(plane: &mut Option<Plane<T>>, peak: T)
     }
 }
 
-/// Writes the negative of each frame that is left of a stream, whose header was written before.
+/// Writes the negative of each remaining frame of a stream. The header must have been written before.
 pub fn negate_frames<T: Pixel, R: io::Read, W: io::Write>(
     alloc: Global,
     source: &mut Source<R>,

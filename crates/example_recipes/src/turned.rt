@@ -1,4 +1,4 @@
-//! A stream of another size and another depth: turned by 90 degrees clockwise, and shown in 10 bits.
+//! A stream that is rotated clockwise by 90 degrees, and converted from 8 to 10 bits.
 ghost use Rattle.std.specs.Prelude.{◌≡◌, All, None, option_map, IfSome};
 ghost use Rattle.v_frame_y4m.specs.Color.{color_with, subsampling_of};
 ghost use Rattle.v_frame_y4m.specs.Header.{IsPiece, IsWritable};
@@ -16,8 +16,8 @@ use v_frame_y4m::{
     Color, Ratio, StreamHeader, Y4mError, read_frame, read_header, write_frame, write_header,
 };
 
-/// Returns the header of a stream whose pictures are turned by 90 degrees and have 10 bits. `None` where no color of 10 bits
-/// has the chroma format. Fields of interlaced video would be columns then, so it is for progressive video.
+/// Returns the header of a stream whose pictures are rotated by 90 degrees and have 10 bits, or `None` if the chroma format has
+/// no 10-bit variant. Use it only for progressive video: the fields of interlaced video would become columns.
 pub fn turned_header(header: StreamHeader) -> Option<StreamHeader>
     requires { IsWritable header }
     ensures value { result ≡ option_map (turned_header header)
@@ -36,7 +36,7 @@ pub fn turned_header(header: StreamHeader) -> Option<StreamHeader>
     })
 }
 
-/// Returns the ratio of height and width.
+/// Returns the ratio with its numerator and denominator exchanged.
 fn turned_ratio(ratio: Ratio) -> Ratio
     ensures { result ≡ turned_ratio ratio }
 {
@@ -46,7 +46,7 @@ fn turned_ratio(ratio: Ratio) -> Ratio
     }
 }
 
-/// Leaves out `XYSCSS=..`, by which ffmpeg says the chroma format again.
+/// Removes `XYSCSS=..`, in which ffmpeg repeats the chroma format.
 fn without_format(extensions: Sequence<Sequence<u8>>) -> Sequence<Sequence<u8>>
     ensures kept { result ≡ without_format extensions }
     ensures pieces { All IsPiece extensions → All IsPiece result }
@@ -56,27 +56,27 @@ fn without_format(extensions: Sequence<Sequence<u8>>) -> Sequence<Sequence<u8>>
     Sequence::from(kept)
 }
 
-/// Why a stream was not turned to its end.
+/// The reason why a stream was not rotated to its end.
 #[derive(Debug, Drop, Error)]
 pub enum TurnedError {
-    /// A header or a frame was not read or not written.
+    /// A header or a frame could not be read or written.
     #[error(transparent)]
     Stream(#[from] Y4mError),
-    /// The pixels have not 8 bits, or there is no frame of the stream's size.
+    /// The pixels do not have 8 bits, or no frame of the stream's size can be built.
     #[error("no frame of 8 bits: {0}")]
     Frame(#[from] FrameError),
-    /// Chroma can't be turned by 90 degrees.
+    /// The chroma planes cannot be rotated by 90 degrees.
     #[error(transparent)]
     Turn(#[from] TurnError),
-    /// There is no such chroma format of 10 bits.
+    /// There is no 10-bit variant of the chroma format.
     #[error("no y4m stream of 10 bits has this chroma format")]
     Format,
-    /// A frame was not turned and deepened.
+    /// A frame could not be rotated and converted.
     #[error(transparent)]
     Deepen(#[from] DeepenError),
 }
 
-/// Turns a stream of 8 bits by 90 degrees clockwise and writes it in 10 bits. A stream that can't be turned leaves nothing
+/// Rotates a stream of 8 bits clockwise by 90 degrees, and writes it with 10 bits. If the stream cannot be rotated, nothing is
 /// written.
 pub fn turn_stream<R: io::Read, W: io::Write>(
     alloc: Global,

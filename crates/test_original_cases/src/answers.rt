@@ -1,4 +1,4 @@
-//! Answers as text.
+//! The text of results.
 
 use crate::printer::Printer;
 use std::fmt::Display;
@@ -6,7 +6,7 @@ use v_frame::plane::CopyError;
 use v_frame::replay::{Answer, Drawn};
 use v_frame::sequence::Sequence;
 
-/// Prints a line for each answer.
+/// Prints one line for each result.
 pub fn print_answers<T: Display>(out: &mut Printer, answers: &[Answer<T>]) {
     for answer in answers {
         match answer {
@@ -39,7 +39,7 @@ pub fn print_answers<T: Display>(out: &mut Printer, answers: &[Answer<T>]) {
     }
 }
 
-/// Prints a row, or that there is none.
+/// Prints a row, or a dash if there is none.
 fn print_row<T: Display>(out: &mut Printer, row: &Option<Sequence<T>>) {
     match row {
         Some(row) => out.list(row.as_slice()),
@@ -47,7 +47,7 @@ fn print_row<T: Display>(out: &mut Printer, row: &Option<Sequence<T>>) {
     }
 }
 
-/// Prints the answer of an iteration over rows: the rows that it gave, and how many were left after each.
+/// Prints the result of an iteration over rows: the rows that it yielded, and the number of remaining rows after each.
 fn print_rows<T: Display>(out: &mut Printer, total: usize, drawn: &[Drawn<Sequence<T>>]) {
     out.named("RowsWalked", &total);
     out.item(&drawn.len());
@@ -57,7 +57,8 @@ fn print_rows<T: Display>(out: &mut Printer, total: usize, drawn: &[Drawn<Sequen
     }
 }
 
-/// Prints the answer of an iteration over pixels or bytes: what it gave, and how many were left after each.
+/// Prints the result of an iteration over pixels or bytes: the items that it yielded, and the number of remaining items after
+/// each.
 fn print_items<T: Display>(out: &mut Printer, name: &str, total: usize, drawn: &[Drawn<T>]) {
     out.named(name, &total);
     out.item(&drawn.len());

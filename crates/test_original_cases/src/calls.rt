@@ -13,7 +13,7 @@ enum Name {
     Write(WriteName),
 }
 
-/// Those that read.
+/// The names of the calls that read.
 #[derive(Clone, Copy)]
 enum ReadName {
     Width,
@@ -25,7 +25,7 @@ enum ReadName {
     ByteData,
 }
 
-/// Those that write.
+/// The names of the calls that write.
 #[derive(Clone, Copy)]
 enum WriteName {
     RowMut,
@@ -37,7 +37,7 @@ enum WriteName {
     CopyFromU8SliceWithStride,
 }
 
-/// How they are spelled.
+/// The spellings of the names.
 const NAMES: [(&str, Name); 14] = [
     ("Width", Name::Read(ReadName::Width)),
     ("Height", Name::Read(ReadName::Height)),
@@ -58,7 +58,7 @@ const NAMES: [(&str, Name); 14] = [
     ),
 ];
 
-/// A call has a line of its own. What is none is a fault, and reads as any.
+/// A call is a line by itself. An unknown call is a fault, and is read as an arbitrary call.
 impl<T: Value> Entry for VisibleCall<T> {
     fn read(input: &mut Input<'_>) -> Self {
         input.next_line();
@@ -75,7 +75,7 @@ impl<T: Value> Entry for VisibleCall<T> {
     }
 }
 
-/// Reads the rest of a call that reads.
+/// Reads the arguments of a call that reads.
 fn read_reading<T: Value>(input: &mut Input<'_>, name: ReadName, plane: usize) -> VisibleCall<T> {
     match name {
         ReadName::Width => VisibleCall::Width { plane },
@@ -104,7 +104,7 @@ fn read_reading<T: Value>(input: &mut Input<'_>, name: ReadName, plane: usize) -
     }
 }
 
-/// Reads the rest of a call that writes.
+/// Reads the arguments of a call that writes.
 fn read_writing<T: Value>(input: &mut Input<'_>, name: WriteName, plane: usize) -> VisibleCall<T> {
     match name {
         WriteName::RowMut => VisibleCall::RowMut {

@@ -1,4 +1,4 @@
-//! Cases: what is read, done and answered for each.
+//! Cases: each is read, executed, and its results are printed.
 
 use crate::answers::print_answers;
 use crate::edits::{Line, edit_frame};
@@ -13,7 +13,7 @@ use v_frame::pixel::Pixel;
 use v_frame::replay::{VisibleCall, replay};
 use v_frame::sequence::Sequence;
 
-/// Answers cases to the end of the lines.
+/// Prints the results of all cases up to the end of the input.
 pub fn answer_cases(input: &mut Input<'_>, out: &mut Printer) {
     for _case in 0..u64::MAX {
         if input.is_at_end() {
@@ -26,25 +26,25 @@ pub fn answer_cases(input: &mut Input<'_>, out: &mut Printer) {
     }
 }
 
-/// What a case has.
+/// The kinds of cases.
 #[derive(Clone, Copy)]
 enum Kind {
     /// One frame and calls.
     Replay,
-    /// Two frames, and calls that are made on each.
+    /// Two frames, and calls that are executed on each.
     Pair,
-    /// Builds alone.
+    /// Only builds.
     Builds,
 }
 
-/// The kinds of cases.
+/// The names of the kinds of cases.
 const KINDS: [(&str, Kind); 3] = [
     ("replay", Kind::Replay),
     ("pair", Kind::Pair),
     ("build", Kind::Builds),
 ];
 
-/// Answers the case that begins in the next line.
+/// Executes the case that begins in the next line.
 fn answer_case(input: &mut Input<'_>, out: &mut Printer) {
     input.next_line();
     input.keyword("case", LineFault::NotACase);
@@ -66,7 +66,7 @@ fn answer_case(input: &mut Input<'_>, out: &mut Printer) {
     }
 }
 
-/// Builds the first frame of a case, whose pixels are of this type, and answers the case.
+/// Builds the first frame of a case, whose pixels have this type, and executes the case.
 fn answer_frames<T: Pixel>(
     input: &mut Input<'_>,
     id: &str,
@@ -85,7 +85,7 @@ fn answer_frames<T: Pixel>(
     drop(built);
 }
 
-/// A case of one frame.
+/// Executes a case of one frame.
 fn answer_one<T: Pixel>(input: &mut Input<'_>, id: &str, frame: &mut Frame<T>, out: &mut Printer) {
     edit_frame(frame, input, Line::Calls);
     let calls = input.list();
@@ -95,7 +95,7 @@ fn answer_one<T: Pixel>(input: &mut Input<'_>, id: &str, frame: &mut Frame<T>, o
     }
 }
 
-/// A case of two frames.
+/// Executes a case of two frames.
 fn answer_pair<T: Pixel>(input: &mut Input<'_>, id: &str, one: &mut Frame<T>, out: &mut Printer) {
     edit_frame(one, input, Line::Frame);
     let second = Spec::read(input);
@@ -109,7 +109,7 @@ fn answer_pair<T: Pixel>(input: &mut Input<'_>, id: &str, one: &mut Frame<T>, ou
     drop(built);
 }
 
-/// The same, where both frames are built.
+/// Executes a case of two frames after both are built.
 fn answer_two<T: Pixel>(
     input: &mut Input<'_>,
     id: &str,
@@ -128,7 +128,7 @@ fn answer_two<T: Pixel>(
     }
 }
 
-/// Reads the line that ends a case, and prints the line that begins its answer, if there was no fault.
+/// Reads the line that ends a case, and prints the line that begins its results. Returns `false` if there was a fault.
 fn begin_answer(input: &mut Input<'_>, id: &str, out: &mut Printer) -> bool {
     input.next_line();
     input.keyword("end", LineFault::NotTheEnd);
@@ -149,7 +149,7 @@ fn print_equality<T: Pixel>(out: &mut Printer, one: &Frame<T>, other: &Frame<T>)
     out.end_line();
 }
 
-/// Does all calls of a case on a frame, and prints their answers and what they leave.
+/// Executes all calls of a case on a frame, and prints their results and the frame afterwards.
 fn answer_calls<T: Pixel>(
     alloc: Global,
     frame: &mut Frame<T>,
@@ -163,7 +163,7 @@ fn answer_calls<T: Pixel>(
     print_frame(out, frame);
 }
 
-/// A case of builds.
+/// Executes a case of builds.
 fn answer_builds(input: &mut Input<'_>, id: &str, out: &mut Printer) {
     input.next_line();
     input.keyword("calls", LineFault::NotCalls);

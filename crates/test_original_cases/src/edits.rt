@@ -1,4 +1,4 @@
-//! What is edited in a frame before the calls.
+//! Edits of a frame before the calls.
 
 use crate::fault::LineFault;
 use crate::fills::fill_plane;
@@ -9,14 +9,14 @@ use v_frame::frame::Frame;
 use v_frame::pixel::Pixel;
 use v_frame::plane::Plane;
 
-/// What begins a line after a frame.
+/// The kinds of lines after a frame.
 #[derive(Clone, Copy)]
 pub enum Line {
-    /// A plane that is put in.
+    /// A plane to insert.
     Put,
-    /// A plane that is taken away.
+    /// A plane to remove.
     Drop,
-    /// What is written into a plane.
+    /// A write into a plane.
     Fill,
     /// The second frame of a pair.
     Frame,
@@ -24,7 +24,7 @@ pub enum Line {
     Calls,
 }
 
-/// Their first words.
+/// The first words of the lines.
 const LINES: [(&str, Line); 5] = [
     ("put", Line::Put),
     ("drop", Line::Drop),
@@ -33,7 +33,8 @@ const LINES: [(&str, Line); 5] = [
     ("calls", Line::Calls),
 ];
 
-/// Makes the edits of the next lines, and reads the word that has to begin the line after them: that of a frame or of calls.
+/// Makes the edits of the next lines, and reads the first word of the line after them. It must begin a frame or calls, as
+/// `behind` specifies.
 pub fn edit_frame<T: Pixel>(frame: &mut Frame<T>, input: &mut Input<'_>, behind: Line) {
     for _edit in 0..u64::MAX {
         input.next_line();
@@ -50,7 +51,7 @@ pub fn edit_frame<T: Pixel>(frame: &mut Frame<T>, input: &mut Input<'_>, behind:
     }
 }
 
-/// Puts a new plane of zeros in the place of one, or where there is none.
+/// Sets a plane to a new plane of zeros, whether or not the frame has this plane.
 fn put_plane<T: Pixel>(frame: &mut Frame<T>, input: &mut Input<'_>) {
     let index = input.size();
     let luma = Spec {
@@ -66,14 +67,14 @@ fn put_plane<T: Pixel>(frame: &mut Frame<T>, input: &mut Input<'_>) {
     }
 }
 
-/// Takes a chroma plane away.
+/// Removes a chroma plane.
 fn drop_plane<T: Pixel>(frame: &mut Frame<T>, input: &mut Input<'_>) {
     let index = input.size();
     input.end();
     set_plane(frame, input, index, None);
 }
 
-/// Sets the plane of an index, or none where there can be none.
+/// Sets or removes the plane with this index.
 fn set_plane<T: Pixel>(
     frame: &mut Frame<T>,
     input: &mut Input<'_>,
@@ -88,7 +89,7 @@ fn set_plane<T: Pixel>(
     }
 }
 
-/// Writes into the buffer of a plane.
+/// Fills the buffer of a plane.
 fn fill<T: Pixel>(frame: &mut Frame<T>, input: &mut Input<'_>) {
     let index = input.size();
     match frame.plane_mut(index) {

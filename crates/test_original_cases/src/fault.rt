@@ -1,31 +1,31 @@
-//! Why the program gives up.
+//! The faults of the program.
 
 use std::fmt;
 use std::io::{self, ErrorKind};
 use v_frame::frame::FrameError;
 
-/// Why the cases could not be answered to their end.
+/// The reason why not all cases were executed.
 #[derive(Drop)]
 pub enum CaseFault {
     /// The input could not be read.
     Read,
     /// The output could not be written.
     Write,
-    /// A request for memory was refused.
+    /// Memory could not be allocated.
     OutOfMemory,
-    /// A line of the input is none of a case.
+    /// A line of the input is malformed.
     Malformed {
         /// The number of the line, counted from 1.
         line: u64,
-        /// What is wrong with it.
+        /// The fault of the line.
         fault: LineFault,
     },
 }
 
-/// What is wrong with a line.
+/// The faults of a line.
 #[derive(Drop)]
 pub enum LineFault {
-    /// The line isn't UTF-8.
+    /// The line is not UTF-8.
     NotText,
     /// The input ends in the line.
     LineNotEnded,
@@ -33,56 +33,56 @@ pub enum LineFault {
     EndOfInput,
     /// The line is empty.
     EmptyLine,
-    /// A token is empty: there are two spaces, or one at an end of the line.
+    /// A token is empty: there are two adjacent spaces, or a space at an end of the line.
     EmptyToken,
-    /// The line ends before a token that it should have.
+    /// A required token is missing at the end of the line.
     MissingToken,
-    /// There are tokens after the last one that the line should have.
+    /// There are tokens after the last one of the line.
     ExtraToken,
-    /// A token should be a number and isn't made of decimal digits, or is above the largest of 64 bits.
+    /// A token should be a number, but does not consist of decimal digits or exceeds 64 bits.
     NotANumber,
     /// A number is above the largest of its type.
     NumberTooLarge,
     /// A case should begin here.
     NotACase,
-    /// No case is of this kind.
+    /// The kind of the case is unknown.
     UnknownKind,
     /// A frame should begin here.
     NotAFrame,
-    /// No pixels are of this type.
+    /// The pixel type is unknown.
     UnknownPixelType,
-    /// No frame has this format.
+    /// The format is unknown.
     UnknownFormat,
-    /// An edit or the calls should stand here.
+    /// An edit or the calls should be here.
     NotAnEdit,
-    /// No edit fills a plane so.
+    /// The way to fill a plane is unknown.
     UnknownFill,
-    /// No plane has this number, or it is that of luma, which can't be dropped.
+    /// There is no plane with this number, or it is luma, which cannot be removed.
     UnknownPlane,
-    /// The frame hasn't the plane that should be filled.
+    /// The frame does not have the plane to fill.
     AbsentPlane,
-    /// A list fills another number of pixels than there are.
+    /// The length of a list differs from the number of pixels to fill.
     FillLength {
-        /// How many pixels there are.
+        /// The number of pixels to fill.
         expected: usize,
-        /// How many the list has.
+        /// The length of the list.
         found: usize,
     },
     /// The calls should begin here.
     NotCalls,
-    /// No call has this name.
+    /// The call is unknown.
     UnknownCall,
-    /// No source of a copy is made so.
+    /// The way to specify the source of a copy is unknown.
     UnknownSource,
-    /// An iterator has no such side.
+    /// The side of an iterator is unknown.
     UnknownSide,
-    /// A build should stand here.
+    /// A build should be here.
     NotABuild,
     /// The case should end here.
     NotTheEnd,
-    /// The second frame of a pair has pixels of another type than the first.
+    /// The pixel types of the two frames of a pair differ.
     OtherPixelType,
-    /// The frame or the plane can't be built.
+    /// The frame or the plane cannot be built.
     NotBuilt(FrameError),
 }
 
@@ -107,7 +107,7 @@ impl fmt::Display for CaseFault {
 }
 
 impl CaseFault {
-    /// That of a read or a write that failed, where memory was not what it lacked.
+    /// Returns the fault of a read or a write that failed: `other`, unless memory could not be allocated.
     pub fn of_io(error: &io::Error, other: CaseFault) -> Self {
         if error.kind() == ErrorKind::OutOfMemory {
             CaseFault::OutOfMemory
@@ -118,7 +118,7 @@ impl CaseFault {
 }
 
 impl LineFault {
-    /// What is wrong, where no number or other error belongs to it.
+    /// Returns the message, if it contains no number and no other error.
     fn text(&self) -> &'static str {
         match self {
             LineFault::NotText => "not UTF-8",

@@ -1,4 +1,4 @@
-//! What is written into the buffer of a plane before the calls.
+//! Writes into the buffer of a plane before the calls.
 
 use crate::fault::LineFault;
 use crate::input::Input;
@@ -6,14 +6,14 @@ use crate::lcg::Lcg;
 use crate::value::Value;
 use v_frame::plane::{Plane, PlaneGeometry};
 
-/// How a plane is filled.
+/// The ways to fill a plane.
 #[derive(Clone, Copy)]
 enum Fill {
-    /// One pixel in this part.
+    /// With one pixel in this part.
     One(Part),
-    /// A list in this part, row after row.
+    /// With a list in this part, row by row.
     List(Part),
-    /// Pixels of a congruence in the whole buffer.
+    /// With pseudorandom pixels in the whole buffer.
     Congruence,
 }
 
@@ -25,7 +25,7 @@ enum Part {
     Visible,
 }
 
-/// The ways to fill a plane.
+/// The names of the ways to fill a plane.
 const FILLS: [(&str, Fill); 5] = [
     ("all", Fill::One(Part::Whole)),
     ("lcg", Fill::Congruence),
@@ -34,7 +34,7 @@ const FILLS: [(&str, Fill); 5] = [
     ("table", Fill::List(Part::Visible)),
 ];
 
-/// Reads what to write from the rest of a line, and writes it.
+/// Reads from the rest of a line how to fill a plane, and fills it.
 pub fn fill_plane<T: Value>(plane: &mut Plane<T>, input: &mut Input<'_>) {
     match input.choice(&FILLS) {
         Some(Fill::One(part)) => fill_one(plane, part, input.pixel()),
@@ -44,7 +44,7 @@ pub fn fill_plane<T: Value>(plane: &mut Plane<T>, input: &mut Input<'_>) {
     }
 }
 
-/// Writes one pixel all over a part.
+/// Fills a part with one pixel.
 fn fill_one<T: Copy>(plane: &mut Plane<T>, part: Part, value: T) {
     let geometry = plane.geometry();
     for (place, entry) in plane.data_mut().iter_mut().enumerate() {
@@ -54,7 +54,7 @@ fn fill_one<T: Copy>(plane: &mut Plane<T>, part: Part, value: T) {
     }
 }
 
-/// Writes the whole buffer, pixel after pixel of a congruence.
+/// Fills the whole buffer with pseudorandom pixels.
 fn fill_congruence<T: Value>(plane: &mut Plane<T>, seed: u64) {
     let mut lcg = Lcg::new(seed);
     for entry in plane.data_mut() {
@@ -62,7 +62,7 @@ fn fill_congruence<T: Value>(plane: &mut Plane<T>, seed: u64) {
     }
 }
 
-/// Writes a part from a list, which has to have its length.
+/// Fills a part from a list, which must have the length of the part.
 fn fill_list<T: Value>(plane: &mut Plane<T>, part: Part, input: &mut Input<'_>) {
     let geometry = plane.geometry();
     let expected = match part {
@@ -86,7 +86,7 @@ fn fill_list<T: Value>(plane: &mut Plane<T>, part: Part, input: &mut Input<'_>) 
 }
 
 impl Part {
-    /// Returns whether a place of the buffer lies in the part.
+    /// Returns whether an index of the buffer lies in the part.
     fn has(self, geometry: &PlaneGeometry, place: usize) -> bool {
         match self {
             Part::Whole => true,
@@ -96,7 +96,7 @@ impl Part {
     }
 }
 
-/// Returns whether a place of the buffer lies in the visible rectangle.
+/// Returns whether an index of the buffer lies in the visible rectangle.
 fn is_visible(geometry: &PlaneGeometry, place: usize) -> bool {
     let (width, height) = (geometry.width(), geometry.height());
     let Some(x) = (place % geometry.stride()).checked_sub(geometry.pad_left()) else {

@@ -1,26 +1,26 @@
-//! The input: its lines, the tokens of a line, and what a token stands for.
+//! The input: its lines, the tokens of a line, and the values of tokens.
 
 use crate::fault::{CaseFault, LineFault};
 use crate::value::Value;
 use std::alloc::Global;
 use std::str;
 
-/// What is left to read. The first fault is kept, and what is read after it stands for nothing.
+/// The rest of the input. It stores the first fault, and values that are read after a fault have no meaning.
 #[derive(Drop)]
 pub struct Input<'a> {
-    /// Where memory is asked for.
+    /// The allocator.
     pub alloc: Global,
-    /// The lines after the one that is read.
+    /// The lines after the current line.
     rest: &'a [u8],
-    /// The number of the line that is read, counted from 1.
+    /// The number of the current line, counted from 1.
     line: u64,
-    /// The tokens of that line that are left to read.
+    /// The tokens of the current line that are not yet read.
     tokens: Option<&'a str>,
     fault: Option<CaseFault>,
 }
 
 impl<'a> Input<'a> {
-    /// Returns the input of this text. No line of it is read.
+    /// Returns the input with this text. No line is read yet.
     pub fn new(alloc: Global, text: &'a [u8]) -> Self {
         Input {
             alloc,
@@ -36,12 +36,12 @@ impl<'a> Input<'a> {
         self.fault.is_some()
     }
 
-    /// Returns the fault that is kept.
+    /// Returns the stored fault.
     pub fn into_fault(self) -> Option<CaseFault> {
         self.fault
     }
 
-    /// Keeps a fault, if none is kept yet. No line is left to read after it.
+    /// Stores a fault, unless one is already stored. The rest of the input is then empty.
     pub fn give_up(&mut self, fault: CaseFault) {
         if self.fault.is_none() {
             self.fault = Some(fault);
@@ -49,19 +49,20 @@ impl<'a> Input<'a> {
         }
     }
 
-    /// Keeps a fault of the line.
+    /// Stores a fault of the current line.
     pub fn keep(&mut self, fault: LineFault) {
         let line = self.line;
         self.give_up(CaseFault::Malformed { line, fault });
     }
 
-    /// Returns whether no line is left.
+    /// Returns whether no line remains.
     pub fn is_at_end(&self) -> bool {
         self.rest.is_empty()
     }
 
-    /// Goes from the end of a line to the next one, which has to be there. [`LineFault::EndOfInput`] is kept where no line is
-    /// left, and [`LineFault::LineNotEnded`], [`LineFault::NotText`] or [`LineFault::EmptyLine`] where it is none.
+    /// Checks that the current line is at its end, and goes to the next line. Stores [`LineFault::EndOfInput`] if no line
+    /// remains, and [`LineFault::LineNotEnded`], [`LineFault::NotText`] or [`LineFault::EmptyLine`] if the next line is
+    /// malformed.
     pub fn next_line(&mut self) {
         self.end();
         self.line = self.line.saturating_add(1);
@@ -83,7 +84,7 @@ impl<'a> Input<'a> {
         self.tokens = Some(line);
     }
 
-    /// Sees that no token is left.
+    /// Checks that no token remains.
     pub fn end(&mut self) {
         if let Some(rest) = self.tokens {
             self.keep(if rest.is_empty() {
@@ -111,14 +112,14 @@ impl<'a> Input<'a> {
         word
     }
 
-    /// Reads the token that has to stand here, where another one is this fault.
+    /// Reads a token that must be `wanted`, and stores `fault` otherwise.
     pub fn keyword(&mut self, wanted: &str, fault: LineFault) {
         if self.word() != wanted {
             self.keep(fault);
         }
     }
 
-    /// What the next token stands for in a table, where it is there.
+    /// Returns the value of the next token in a table, or `None` if the table does not have it.
     pub fn choice<C: Copy>(&mut self, table: &[(&str, C)]) -> Option<C> {
         let word = self.word();
         for &(name, choice) in table {
@@ -129,18 +130,18 @@ impl<'a> Input<'a> {
         None
     }
 
-    /// Returns a number.
+    /// Reads a number.
     pub fn number(&mut self) -> u64 {
         let word = self.word();
         self.number_of(word)
     }
 
-    /// Returns a number of pixels or of bytes, or a place.
+    /// Reads a number of pixels or of bytes, or an index.
     pub fn size(&mut self) -> usize {
         self.number() as usize
     }
 
-    /// As many such numbers as there are to be.
+    /// Reads `N` numbers of pixels or of bytes, or indices.
     pub fn sizes<const N: usize>(&mut self) -> [usize; N] {
         let mut sizes = [0; N];
         for size in &mut sizes {
@@ -149,13 +150,13 @@ impl<'a> Input<'a> {
         sizes
     }
 
-    /// Returns a pixel, by its value, or any other number of its type.
+    /// Reads a pixel by its value. Any other number of its type is read in the same way.
     pub fn pixel<T: Value>(&mut self) -> T {
         let word = self.word();
         self.pixel_of(word)
     }
 
-    /// Returns the pixel whose value a token says.
+    /// Returns the pixel whose value is in a token.
     pub fn pixel_of<T: Value>(&mut self, word: &str) -> T {
         match T::of_number(self.number_of(word)) {
             Some(pixel) => pixel,
@@ -166,9 +167,9 @@ impl<'a> Input<'a> {
         }
     }
 
-    /// Returns the number that a token says.
+    /// Returns the number in a token.
     fn number_of(&mut self, word: &str) -> u64 {
-        // `parse` takes a sign as well.
+        // `parse` accepts a sign as well.
         match word.parse::<u64>() {
             Ok(number) if !word.starts_with('+') => number,
             _ => {

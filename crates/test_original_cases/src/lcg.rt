@@ -1,9 +1,9 @@
-//! Pixels that follow from a seed.
+//! Pseudorandom pixels that are determined by a seed.
 ghost use Rattle.std.specs.Prelude.{◌≡◌, ◌+◌, ◌*◌, ◌/◌, ◌%◌, ◌^◌, ◌<◌};
 
 use crate::value::Value;
 
-/// A linear congruence modulo 2^31.
+/// A linear congruential generator modulo 2^31.
 #[derive(Drop)]
 pub struct Lcg {
     state: u64,
@@ -11,7 +11,7 @@ pub struct Lcg {
 }
 
 impl Lcg {
-    /// Returns the congruence of a seed.
+    /// Returns a generator with this seed.
     pub fn new(seed: u64) -> Self
         ensures { result.state ≡ seed % 2 ^ 31 }
     {
@@ -25,7 +25,7 @@ impl Lcg {
         T::of_step(self.step())
     }
 
-    /// Returns the next number: one step, and its upper 16 bits.
+    /// Advances the state, and returns its upper 16 bits.
     fn step(&mut self) -> u16
         ensures state { self.new.state ≡ (1103515245 * self.old.state + 12345) % 2 ^ 31 }
         ensures value { result ≡ self.new.state / 2 ^ 15 }

@@ -1,4 +1,5 @@
-//! Lists of a line. Their length stands in front, and room is made for what is there, whatever it says.
+//! Lists in a line. Each begins with its length. Memory is allocated only for the entries that are present, whatever the length
+//! is.
 
 use crate::fault::{CaseFault, LineFault};
 use crate::input::Input;
@@ -7,23 +8,23 @@ use crate::value::Value;
 use v_frame::replay::{PixelDraw, RowDraw, Side};
 use v_frame::sequence::Sequence;
 
-/// How the source of a copy is reported.
+/// The ways to specify the source of a copy.
 #[derive(Clone, Copy)]
 enum Source {
     /// By its pixels.
     List,
-    /// By the seed of a congruence.
+    /// By the seed of a pseudorandom sequence.
     Congruence,
 }
 
-/// Their names.
+/// The names of the ways to specify a source.
 const SOURCES: [(&str, Source); 2] = [("list", Source::List), ("lcg", Source::Congruence)];
 
 /// The names of the sides of an iterator.
 const SIDES: [(&str, Side); 2] = [("F", Side::Front), ("B", Side::Back)];
 
 impl<'a> Input<'a> {
-    /// Returns a list of entries of this kind.
+    /// Reads a list of entries of this type.
     pub fn list<E: Entry + Drop>(&mut self) -> Sequence<E> {
         let mut entries = Vec::new(self.alloc);
         for _ in 0..self.number() {
@@ -36,7 +37,7 @@ impl<'a> Input<'a> {
         entries.into()
     }
 
-    /// Returns a list of pixels, or as many pixels of a congruence, where it is there. Bytes are pixels of one byte.
+    /// Reads a list of pixels, or the number of pixels to take from `lcg` if it is given. Bytes are read as pixels of one byte.
     pub fn pixels<T: Value>(&mut self, mut lcg: Option<Lcg>) -> Vec<T> {
         let mut pixels = Vec::new(self.alloc);
         for _ in 0..self.number() {
@@ -52,7 +53,7 @@ impl<'a> Input<'a> {
         pixels
     }
 
-    /// Returns the source of a copy.
+    /// Reads the source of a copy.
     pub fn source<T: Value>(&mut self) -> Sequence<T> {
         let lcg = match self.choice(&SOURCES) {
             Some(Source::List) => None,
@@ -73,13 +74,13 @@ impl<'a> Input<'a> {
     }
 }
 
-/// What a list has.
+/// An entry of a list.
 pub trait Entry {
-    /// Reads one.
+    /// Reads an entry.
     fn read(input: &mut Input<'_>) -> Self;
 }
 
-/// The side of an iterator that a call takes an item from.
+/// The side of an iterator from which a call takes an item.
 impl Entry for Side {
     fn read(input: &mut Input<'_>) -> Self {
         match input.choice(&SIDES) {
@@ -92,7 +93,7 @@ impl Entry for Side {
     }
 }
 
-/// A pixel, or none.
+/// A pixel or nothing.
 impl<T: Value> Entry for Option<T> {
     fn read(input: &mut Input<'_>) -> Self {
         match input.word() {
@@ -102,7 +103,7 @@ impl<T: Value> Entry for Option<T> {
     }
 }
 
-/// A call on an iterator of lent rows.
+/// A call on an iterator that lends rows.
 impl<T: Value> Entry for RowDraw<T> {
     fn read(input: &mut Input<'_>) -> Self {
         let side = Side::read(input);
@@ -111,7 +112,7 @@ impl<T: Value> Entry for RowDraw<T> {
     }
 }
 
-/// A call on an iterator of lent pixels.
+/// A call on an iterator that lends pixels.
 impl<T: Value> Entry for PixelDraw<T> {
     fn read(input: &mut Input<'_>) -> Self {
         let side = Side::read(input);

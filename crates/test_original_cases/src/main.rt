@@ -1,8 +1,8 @@
-//! Cases of the original crate: reads them from standard input, and prints what the original answers.
+//! Runs test cases for comparison with the original crate: reads them from standard input, and prints their results.
 //!
-//! A case builds one frame or two, edits their planes and replays calls on them, or builds frames alone. The text is made
-//! of lines of tokens with one space between them. The answers of a case are printed when all of it was read. A fault is
-//! printed on standard error with the number of its line, and the cases before it are answered.
+//! A case builds one or two frames, edits their planes and replays calls on them, or only builds frames. The text consists of
+//! lines of tokens that are separated by single spaces. The results of a case are printed after all of it is read. A fault is
+//! printed to standard error with the number of its line, and the results of the cases before it are printed.
 #![tactic(auto)]
 
 mod answers;

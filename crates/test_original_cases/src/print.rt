@@ -1,4 +1,4 @@
-//! Frames as text.
+//! The text of frames.
 
 use crate::printer::Printer;
 use crate::spec::Spec;
@@ -9,10 +9,10 @@ use v_frame::frame::{Frame, FrameError};
 use v_frame::pixel::Pixel;
 use v_frame::plane::PlaneGeometry;
 
-/// A longer buffer is written as runs.
+/// The largest number of entries of a buffer that is printed as a list. A longer buffer is printed as runs.
 const LONGEST_LIST: usize = 4096;
 
-/// Builds a frame, and prints what that gives. Allocation failure is none of a case.
+/// Builds a frame and prints the result. No case expects that memory cannot be allocated.
 pub fn print_build<T: Pixel>(alloc: Global, out: &mut Printer, spec: &Spec) {
     let built = spec.build::<T>(alloc);
     match &built {
@@ -31,7 +31,7 @@ pub fn print_build<T: Pixel>(alloc: Global, out: &mut Printer, spec: &Spec) {
     drop(built);
 }
 
-/// Prints the format, the depth and the planes.
+/// Prints the format, the bit depth and the planes.
 pub fn print_frame<T: Pixel>(out: &mut Printer, frame: &Frame<T>) {
     out.text(match frame.subsampling {
         ChromaSubsampling::Yuv420 => "frame Yuv420",
@@ -80,7 +80,7 @@ fn print_buffer<T: PartialEq + Display>(out: &mut Printer, entries: &[T]) {
     out.end_line();
 }
 
-/// Prints a buffer as runs of equal entries that stand side by side, each as long as it can be.
+/// Prints a buffer as runs of equal adjacent entries. Each run is as long as possible.
 fn print_runs<T: PartialEq + Display>(out: &mut Printer, entries: &[T]) {
     out.named(" runs", &entries.len());
     let mut runs = 0usize;
@@ -101,7 +101,7 @@ fn print_runs<T: PartialEq + Display>(out: &mut Printer, entries: &[T]) {
     }
 }
 
-/// Returns whether the entry of a place has another one, or none, after it.
+/// Returns whether the entry at an index differs from the next one or is the last.
 fn ends_run<T: PartialEq>(entries: &[T], place: usize) -> bool {
     entries.get(place) != entries.get(place.saturating_add(1))
 }

@@ -1,9 +1,9 @@
-//! Text that is made piece by piece.
+//! Text that is produced piece by piece.
 
 use std::alloc::Global;
 use std::fmt::Display;
 
-/// The text of the answers. Where a request for memory is refused, it is cut off there.
+/// The text of the results. If memory cannot be allocated, the text is cut off there.
 #[derive(Drop)]
 pub struct Printer {
     text: String,
@@ -11,7 +11,7 @@ pub struct Printer {
 }
 
 impl Printer {
-    /// No text.
+    /// Returns an empty text.
     pub fn new(alloc: Global) -> Self {
         Printer {
             text: String::new(alloc),
@@ -19,7 +19,7 @@ impl Printer {
         }
     }
 
-    /// What was printed.
+    /// Returns the printed text.
     pub fn as_bytes(&self) -> &[u8] {
         self.text.as_bytes()
     }
@@ -34,7 +34,7 @@ impl Printer {
         self.is_cut_off = true;
     }
 
-    /// Prints a text as it is.
+    /// Prints a text unchanged.
     pub fn text(&mut self, text: &str) {
         self.is_cut_off = self.is_cut_off || self.text.push_str(text).is_err();
     }
@@ -44,18 +44,18 @@ impl Printer {
         self.text("\n");
     }
 
-    /// Prints an item, with a space before it.
+    /// Prints an item after a space.
     pub fn item<I: Display>(&mut self, item: &I) {
         self.is_cut_off = self.is_cut_off || write!(self.text, " {item}").is_err();
     }
 
-    /// Prints a name, and an item after it.
+    /// Prints a name, a space and an item.
     pub fn named<I: Display>(&mut self, name: &str, item: &I) {
         self.text(name);
         self.item(item);
     }
 
-    /// Prints the length of a list and its items, with a space before each.
+    /// Prints the length of a list and its items, each after a space.
     pub fn list<I: Display>(&mut self, items: &[I]) {
         self.item(&items.len());
         for item in items {

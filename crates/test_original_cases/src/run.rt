@@ -1,4 +1,4 @@
-//! All cases of a reader, answered to a writer.
+//! Runs all cases of a reader, and writes the results to a writer.
 
 use crate::cases::answer_cases;
 use crate::fault::CaseFault;
@@ -7,11 +7,11 @@ use crate::printer::Printer;
 use std::alloc::Global;
 use std::io::{Read, Write};
 
-/// Reads cases to the end of the input, and writes the answer of each.
+/// Reads cases to the end of the input, and writes the results of each.
 ///
 /// # Errors
 ///
-/// The first fault that is met. The cases before it are answered, as far as the writer takes what it is given.
+/// Returns the first fault. The results of the cases before it are written, unless writing fails.
 pub fn run_cases<R: Read, W: Write>(
     alloc: Global,
     reader: &mut R,

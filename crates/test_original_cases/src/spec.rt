@@ -1,4 +1,4 @@
-//! What a frame should be.
+//! Requests for frames.
 
 use crate::fault::{CaseFault, LineFault};
 use crate::input::Input;
@@ -8,25 +8,25 @@ use v_frame::chroma::ChromaSubsampling;
 use v_frame::frame::{Frame, FrameBuilder, FrameError};
 use v_frame::pixel::Pixel;
 
-/// Type, depth, luma size, format and luma paddings.
+/// The pixel type, the bit depth, the luma size, the format and the luma paddings.
 #[derive(Clone, Copy)]
 pub struct Spec {
-    /// The bytes of a pixel: 1 of `u8`, 2 of `u16`.
+    /// The size of a pixel in bytes: 1 for `u8`, 2 for `u16`.
     pub bytes: usize,
-    /// The bits of a pixel.
+    /// The bit depth.
     pub depth: u8,
-    /// The visible columns and rows of luma.
+    /// The visible width and height of luma.
     pub size: [usize; 2],
     /// The format.
     pub format: ChromaSubsampling,
-    /// The border columns of luma on the left and on the right, and its border rows at the top and at the bottom.
+    /// The numbers of border columns of luma on the left and on the right, and of border rows at the top and at the bottom.
     pub paddings: [usize; 4],
 }
 
-/// The types of pixels, by their bytes.
+/// The pixel types by name, with the size of a pixel in bytes.
 const TYPES: [(&str, usize); 2] = [("u8", 1), ("u16", 2)];
 
-/// The formats.
+/// The formats by name.
 const FORMATS: [(&str, ChromaSubsampling); 5] = [
     ("Yuv420", ChromaSubsampling::Yuv420),
     ("Yuv422", ChromaSubsampling::Yuv422),
@@ -36,7 +36,7 @@ const FORMATS: [(&str, ChromaSubsampling); 5] = [
 ];
 
 impl Spec {
-    /// What a faulty line reads as.
+    /// The value of a line with a fault.
     const NONE: Spec = Spec {
         bytes: 1,
         depth: 0,
@@ -80,7 +80,7 @@ impl Spec {
             .build(alloc)
     }
 
-    /// Builds the frame that a line asks for, if there was no fault. That it cannot be built is one.
+    /// Builds the frame of a line, unless there was a fault. A failed build is a fault as well.
     pub fn frame<T: Pixel>(&self, input: &mut Input<'_>) -> Option<Frame<T>> {
         if input.is_faulty() {
             return None;

@@ -1,16 +1,16 @@
-//! Values that are read for pixels.
+//! Values that are read as pixels.
 
 use v_frame::pixel::Pixel;
 
-/// A pixel, as it is read. Reading asks for no more, and [`Pixel`] has a dozen bounds.
+/// A pixel that can be read. Readers need no other calls, and [`Pixel`] has a dozen bounds.
 pub trait Value: Copy {
-    /// That of the number 0.
+    /// Returns the pixel with the value 0.
     fn zero() -> Self;
 
-    /// That of a number, where the type has it.
+    /// Returns the pixel with this value, or `None` if the value does not fit into the type.
     fn of_number(number: u64) -> Option<Self>;
 
-    /// That of a step of a congruence: bytes are its lower half.
+    /// Returns the pixel for a step of the pseudorandom sequence. A one-byte pixel is the lower half of `step`.
     fn of_step(step: u16) -> Self;
 }
 

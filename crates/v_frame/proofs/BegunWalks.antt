@@ -1,5 +1,5 @@
--- How a plane ends, of which an iterator over rows or pixels was lent, where its items end as draws leave them. Assumes
--- `Logic`.
+-- The final state of a plane whose rows or pixels were lent by an iterator, if its items have the final values that
+-- the draws leave. Assumes `Logic`.
 use Rattle.v_frame_buffer.proofs.Steps.{param, List, ent, sep, wand, RattleType, Ura, Logic, sem, via, mono_r, apply∗}
 use Rattle.v_frame_buffer.proofs.Steps.{MutBor, SProp, ◌≡◌, length, Fml, fex, fpick, done, qed, use2, !, ‵, [], ◌∷◌, ◌$◌, ◌∵◌}
 use Rattle.v_frame_raster.specs.Raster.{Raster, table_of}
@@ -11,7 +11,7 @@ use Rattle.v_frame.proofs.ItemKinds.{Draw, Entry, FinalItems, Kind, EndsBy, Walk
 use Rattle.v_frame.proofs.{DrawnItems.rows_as_long}
 
 module _ {M : Type 1} {𝓤 : Ura M} (𝓛 : Logic 𝓤) (T : RattleType) (plane : MutBor (Raster T.Denot)) where
-  -- final values that are as long as they have to be, and the table that they are
+  -- Final values with the required lengths, and the table that they form.
   abbrev pub Fits : (k : Kind) → List (Entry T k) → Type 0
   Fits of_pixels second = Unit {0}
   Fits _ second = map length second ≡ map length (table_of plane.now)
@@ -33,14 +33,14 @@ module _ {M : Type 1} {𝓤 : Ura M} (𝓛 : Logic 𝓤) (T : RattleType) (plane
   clause_says of_pixels walk second fits = record { apply = λ a says. says second }
   clause_says k walk second fits = record { apply = λ a says. says second fits }
 
-  -- the plane ends with the table that the final values are
+  -- The final plane shows the table that the final values form.
   pub ends_as : (k : Kind) (walk : Walk T k) (second : List (Entry T k)) → Fits k second →
       ent 𝓤 (sep 𝓤 (sem 𝓛 (FinalItems T k walk second)) (sem 𝓛 (EndsBy T k plane walk))) (Shows k second)
   ends_as k walk second fits = let New = sem 𝓛 (FinalItems T k walk second) in
       via 𝓤 (sep 𝓤 New (wand 𝓤 New (Shows k second))) (mono_r 𝓤 New (clause_says k walk second fits))
       (apply∗ 𝓤 New (Shows k second))
 
-  -- so where draws leave them
+  -- This holds for the final values that the draws leave.
   pub table_ends : (k : Kind) (walk : Walk T k) (draws : List (Draw T k)) →
       ent 𝓤 (sep 𝓤 (sem 𝓛 (FinalItems T k walk (walk_leaves (side_of T k) (made T k) (shown T k plane.now) draws)))
       (sem 𝓛 (EndsBy T k plane walk)))

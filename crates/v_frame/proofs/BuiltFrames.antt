@@ -1,4 +1,4 @@
--- A built frame is zero everywhere, and its chroma planes have their size.
+-- A new frame is zero everywhere, and its chroma planes have the size for the format.
 use Rattle.std.proofs.Common.{◌≡◌, Option, Some, None, Ok, All, IfSome, option_map, sym, ◌∙◌, ap, arith}
 use Rattle.std.proofs.lemmas.List.{get_or-replicate, length-replicate}
 use Rattle.v_frame_raster.specs.Geometry.{Geometry, alloc_size_of}
@@ -10,7 +10,7 @@ use Rattle.v_frame_raster.specs.declared.chroma.ChromaSubsampling.{ChromaSubsamp
 use Rattle.v_frame_raster.proofs.ChromaLemmas.{chroma_size, no_chroma_size}
 use Rattle.v_frame.specs.declared.frame.Frame.{Frame}
 
--- what a plane of one value holds, and its size
+-- The entries of a plane that is filled with one value, and its size.
 module _ {T : Type 0} (zero : T) where
   filled_everywhere : (g : Geometry) → All (λ pixel. pixel ≡ zero) (filled zero g).buffer
   filled_everywhere g = λ k d h. get_or-replicate (alloc_size_of g) k zero d

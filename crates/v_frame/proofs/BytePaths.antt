@@ -1,4 +1,4 @@
--- Bytes that go through a frame: it is built, filled by a copy with a stride, and its bytes are taken.
+-- Bytes that go through a frame: the frame is built, filled by a copy with a stride, and its bytes are read.
 use Rattle.std.proofs.Common.{ℕ, ◌≡◌, ◌*◌, ◌^◌, ◌<◌, ◌≤◌, Bool, true, false, ◌&&◌, ◌||◌, ltb, if◌then◌else◌, List, []}
 use Rattle.std.proofs.Common.{◌∷◌, length, Option, Some, None, Result, Ok, Err, refl, eq-eqb}
 use Rattle.std.specs.Prelude.{MatchOption, IsOkUnless, is_ok}
@@ -26,7 +26,7 @@ use Rattle.v_frame_raster.proofs.ChromaLemmas.{both_true}
 use Rattle.v_frame_raster.proofs.tables.Sizes.{width_of_shown, height_of_shown}
 
 module _ {X : Type 0} (r : Result X FrameError) (built : X) (is : r ≡ Ok built) where
-  -- what was not refused has passed each test
+  -- A request that is not rejected has passed each check.
   passed : (a b c : Bool) (e f g o : FrameError) →
       MatchOption (if a then Some e else (if b then Some f else (if c then None else Some g))) (IsOkUnless r o)
       (λ fault. r ≡ Err fault) → c ≡ true
@@ -35,7 +35,7 @@ module _ {X : Type 0} (r : Result X FrameError) (built : X) (is : r ≡ Ok built
   passed false true false e f g o h = cc
   passed false false false e f g o h = cc
 
-  -- so a frame that was built has a height
+  -- A frame that was built therefore has a height.
   pub built_high : (bytes : ℕ) (asked : FrameRequest) (o : FrameError) → MatchOption (refusal_of bytes asked)
       (IsOkUnless r o) (λ fault. r ≡ Err fault) →
       0 < asked.height
@@ -48,7 +48,7 @@ module _ {X : Type 0} (r : Result X FrameError) (built : X) (is : r ≡ Ok built
       ltb-true 0 asked.height (both_true _ _ (both_true (ltb 0 asked.width) _
       (both_true (is_laid_out luma) _ all).0).1).0
 
--- an error that is passed on comes for the same reason
+-- An error that is passed on has the same reason.
 pub refusal_goes_on : {X Y : Type 0} (r : Result X FrameError) (s : Result Y FrameError) (e o : FrameError)
     (due : Option FrameError) → r ≡ Err e → s ≡ Err e
     → MatchOption due (IsOkUnless r o) (λ fault. r ≡ Err fault) → MatchOption due (IsOkUnless s o)
@@ -67,7 +67,7 @@ module _ {T : Type 0} where
             blank,
       )
 
-  -- what the copy and the iteration answer
+  -- The results of the copy and of the iteration.
   module _ (form : PixelForm T) (back : (v : ℕ) → v < 256 ^ form.size → form.value (form.pixel_of v) ≡ v)
       (source : List ℕ) (bytes : AreBytes source) (stride :
       ℕ) (sides : List Side) where

@@ -1,4 +1,4 @@
--- A call from a side, in a proof by hand: which side it is, and what `next` or `next_back` says then. Assumes `Logic`.
+-- A call from a side in a hand-written proof: the side, and the clauses of `next` or `next_back`. Assumes `Logic`.
 use Rattle.v_frame_buffer.proofs.Steps.{RattleType, subst, sym, ◌≡◌, List, [], ◌∷◌, Option, MutBor, refl, ap, SProp}
 use Rattle.v_frame_buffer.proofs.Steps.{ent, sep, fact, fact_i, shows, ⊤, MakesProgress, item_count, YieldsFirstMut}
 use Rattle.v_frame_buffer.proofs.Steps.{YieldsLastMut, only, peeks, Val, Ura, Goal, Item, Seq, ‵, raw, ◌$◌, drop, Logic}
@@ -24,7 +24,7 @@ module _ {M : Type 1} {𝓤 : Ura M} (𝓛 : Logic 𝓤) (T : RattleType) (k : K
   Gave side = (option_copied_mut r ≡ item_from side (left T k old)) ×
       (left T k new ≡ remaining_after side (left T k old))
 
-  -- what a call says, in the words of its side, and in its own
+  -- The clauses of a call, stated for its side and for the function itself.
   abbrev pub Draws : Side → List (Item 𝓤)
   Draws side = ‵ (Lends T k side old r new) ∷ raw (fact 𝓤 (Gave side)) ∷ []
 

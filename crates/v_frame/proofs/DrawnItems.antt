@@ -1,4 +1,5 @@
--- Items that calls of `next` and `next_back` took, put back as they were left: what a writing iterator leaves.
+-- The effect of an iterator that writes: the items that calls of `next` and `next_back` took are put back with their
+-- final values.
 use Rattle.std.proofs.Common.{Bool, true, false, ℕ, ◌≡◌, ◌+◌, ◌-◌, ◌<◌, ◌≤◌, if◌then◌else◌, List, [], ◌∷◌, ◌++◌, length}
 use Rattle.std.proofs.Common.{map, take, Option, Some, None}
 use Rattle.std.proofs.Common.{All, MutBor, get_or, slice_get, refl, sym, ◌∙◌, ap, arith, append-nil, length-append}
@@ -22,7 +23,7 @@ use Rattle.v_frame.proofs.Draws.{AreTaken, at_number, back_with, fewer, front_wi
 use Rattle.v_frame.proofs.Draws.{put_between, taken, taken_more}
 
 module _ {W X : Type 0} (items : W → List X) (old : W) where
-  -- a call gives the item at its side, and leaves the others
+  -- A call yields the item at its side, and leaves the others.
   pub first_drawn : (r : Option (MutBor X)) (new : W) → YieldsFirstMut items old r new
       → (option_copied_mut r ≡ item_from Front (items old)) × (items new ≡ remaining_after Front (items old))
   first_drawn None new is = rw (is.0, is.1) (refl, refl)
@@ -37,7 +38,7 @@ module _ {W X : Type 0} (items : W → List X) (old : W) where
       rw (is, behind) (sym (slice_get-at (items new) item.now []), sym (take-append_seam (items new) (item.now ∷ [])))
 
 module _ {X : Type 0} where
-  -- an item that is put back makes the list as long as it was
+  -- Putting an item back restores the length of the list.
   pub length-put_back : (side : Side) (change : X → X) (items left : List X) → length left ≡ length
       (remaining_after side items) →
       length (put_back side change (item_from side items) left) ≡ length items
@@ -54,7 +55,7 @@ module _ {X : Type 0} where
   put_none Back change rest = refl
 
 module _ {X D : Type 0} (side_of : D → Side) (make : D → X → X) where
-  -- calls after the last item change nothing
+  -- Calls after the last item change nothing.
   unchanged : (items : List X) (before : List Side) (draws : List D) → length items ≤ length before → changed_after
       side_of make items before draws ≡ items
   unchanged items before [] none = refl
@@ -64,11 +65,11 @@ module _ {X D : Type 0} (side_of : D → Side) (make : D → X → X) where
   abbrev Back_in_turn : List X → List D → List X → List X
   Back_in_turn = put_back_in_turn side_of make
 
-  -- what calls put back of all that was left before them
+  -- The list after the items of all calls are put back. The remaining items are unchanged.
   abbrev All_back : List X → List D → List X
   All_back items draws = Back_in_turn items draws (remaining_in_turn items (map side_of draws))
 
-  -- what comes back over more calls comes back over those, and then over the ones before
+  -- Items that more calls put back are put back by the later calls first, and then by the earlier ones.
   pub put_back-append : (items : List X) (draws more : List D) (left : List X) → Back_in_turn items (draws ++ more)
       left ≡
       Back_in_turn items draws (Back_in_turn (remaining_in_turn items (map side_of draws)) more left)
@@ -77,13 +78,13 @@ module _ {X D : Type 0} (side_of : D → Side) (make : D → X → X) where
       ap (put_back (side_of draw) (make draw) (item_from (side_of draw) items))
       (put_back-append (remaining_after (side_of draw) items) draws more left)
 
-  -- where nothing is left calls change nothing
+  -- If no item remains, calls change nothing.
   put_back_none : (draws : List D) → All_back [] draws ≡ []
   put_back_none [] = refl
   put_back_none (draw ∷ draws) = put_none (side_of draw) (make draw) (λ items. All_back items draws) ∙ put_back_none
       draws
 
-  -- the items that are left are between those that calls took
+  -- The remaining items lie between those that the calls took.
   put_back_between : (front items back : List X) (before : List Side) (draws : List D) → AreTaken front back before →
       changed_after side_of make (front ++ (items ++ back)) before draws ≡ front ++ (All_back items draws ++ back)
   put_back_between front items back before [] so_far = refl
@@ -104,13 +105,13 @@ module _ {X D : Type 0} (side_of : D → Side) (make : D → X → X) where
       (put_back_between (front_with side item front) left
       (back_with side item back) (before ++ side ∷ []) draws (taken_more side item front back before so_far))
 
-  -- so with all of them put back the list is what the iterator leaves
+  -- With all items put back, the list is the one that the iteration leaves.
   pub put_back_all : (items : List X) (draws : List D) → All_back items draws ≡ walk_leaves side_of make items draws
   put_back_all items draws =
       sym (simp append-nil at (put_back_between [] items [] [] draws (record { from_front = refl; from_back = refl })))
 
   module _ {B : Type 0} (f : X → B) where
-    -- calls that change an item in no way that f shows
+    -- A call that changes an item without changing its value under f.
     abbrev pub Keeps : D → Type 0
     Keeps draw = (item : X) → f (make draw item) ≡ f item
 
@@ -129,13 +130,13 @@ module _ {X D : Type 0} (side_of : D → Side) (make : D → X → X) where
         kept_after (changed_by side_of make items before draw) (before ++ side_of draw ∷ []) draws
         (All-tail Keeps draw draws keep) ∙ kept_by draw items _ _ _ (All-head Keeps draw draws keep) refl
 
--- the rows of a table stay as wide
+-- The rows of a table keep their width.
 pub rows_as_long : {T : Type 0} (rows : List (List T)) (draws : List (RowDraw T)) →
     map length (rows_written rows draws) ≡ map length rows
 rows_as_long rows draws = kept_after side_of_row row_written length rows [] draws
     (λ k d h row. length-overwritten_row row (get_or draws k d).writes)
 
--- what is left after one more call of a list, by the draw's number
+-- The items that remain after the draw with index i.
 pub nth_left : {X D : Type 0} (side_of : D → Side) (items : List X) (draws : List D) (i : ℕ) (h : i < length draws)
     (left more : List X) →
     left ≡ remaining_in_turn items (map side_of (take i draws)) → more ≡ remaining_after (side_of (nth_of draws i h))

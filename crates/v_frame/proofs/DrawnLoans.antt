@@ -1,6 +1,5 @@
--- What calls that write leave of an iterator's final values: a call, with an item or with none, one more of a list, and
--- the iterator that is dropped.
--- Assumes `Logic`.
+-- The effect of calls that write on the final values of an iterator: a call with or without an item, one more call of
+-- a list, and the drop of the iterator. Assumes `Logic`.
 use Rattle.v_frame_buffer.proofs.Steps.{via, mono_r, apply∗, ℕ, ◌+◌, ◌<◌, take, arith, ◌≡◌, List, [], ◌∷◌, length, refl}
 use Rattle.v_frame_buffer.proofs.Steps.{sym, ap, ◌∙◌, Option, Some, None, MutBor, SProp, all, emp, ent, sep, wand}
 use Rattle.v_frame_buffer.proofs.Steps.{RattleType, Ura, ‵, ◌$◌, ◌∵◌, !, qed, assume, done, each, join, move, rewrite}
@@ -20,7 +19,7 @@ module _ {M : Type 1} {𝓤 : Ura M} (𝓛 : Logic 𝓤) (T : RattleType) where
   abbrev Final : (k : Kind) → Walk T k → List (Entry T k) → SProp 𝓤
   Final k walk xs = sem 𝓛 (FinalItems T k walk xs)
 
-  -- where `before` says the final values before of the one after
+  -- `before` computes the earlier final values from the later ones.
   abbrev Tells : (k : Kind) → (List (Entry T k) → List (Entry T k)) → (old new : Walk T k) → SProp 𝓤
   Tells k before old new =
       all 𝓤 (λ (xs : List (Entry T k)). all 𝓤 (λ (_ : length xs ≡ length (left T k new)). wand 𝓤 (Final k new xs)
@@ -29,7 +28,7 @@ module _ {M : Type 1} {𝓤 : Ura M} (𝓛 : Logic 𝓤) (T : RattleType) where
   abbrev pub Put : (k : Kind) → Side → (Entry T k → Entry T k) → (old new : Walk T k) → SProp 𝓤
   Put k side change old = Tells k (put_back side change (item_from side (left T k old))) old
 
-  -- a call that gave no item
+  -- A call that yields no item.
   pub none_taken : (side : Side) (k : Kind) (change : Entry T k → Entry T k) (old new : Walk T k) → item_from side
       (left T k old) ≡ None →
       ent 𝓤 (sem 𝓛 (Lends T k side old None new)) (Put k side change old new)
@@ -37,7 +36,8 @@ module _ {M : Type 1} {𝓤 : Ura M} (𝓛 : Logic 𝓤) (T : RattleType) where
   none_taken Back of_pixels change old new none = rw none (record { apply = λ a says xs same. says xs })
   none_taken side k change old new none = rw none (record { apply = λ a says xs same. says xs })
 
-  -- one that gave an item says this of any final values, and one of the last row, of as many as the rows that are left
+  -- A call that yields an item states this for all final values. If it takes the last row, their number must be the
+  -- number of remaining rows.
   takes : (side : Side) (k : Kind) (change : Entry T k → Entry T k) (old new : Walk T k) (x : MutBor (Entry T k))
       (xs : List (Entry T k)) →
       length xs ≡ length (left T k new) → ent 𝓤 (sem 𝓛 (Lends T k side old (Some x) new))
@@ -48,7 +48,7 @@ module _ {M : Type 1} {𝓤 : Ura M} (𝓛 : Logic 𝓤) (T : RattleType) where
   takes Front k change old new x xs same = record { apply = λ a says. says (change x.now, xs) }
   takes Back k change old new x xs same = record { apply = λ a says. says (change x.now, xs) same }
 
-  -- it ends as it was left
+  -- The final value of the item is its changed value.
   pub item_taken : (side : Side) (k : Kind) (change : Entry T k → Entry T k) (old new : Walk T k)
       (x : MutBor (Entry T k)) →
       item_from side (left T k old) ≡ Some x.now →
@@ -66,7 +66,7 @@ module _ {M : Type 1} {𝓤 : Ura M} (𝓛 : Logic 𝓤) (T : RattleType) where
       done !))
 
   module _ (k : Kind) where
-    -- where they are known of the one after
+    -- The final values are known for the iterator after the call.
     pub tells : (before : List (Entry T k) → List (Entry T k)) (old new : Walk T k) (xs : List (Entry T k)) → length xs
         ≡ length (left T k new) →
         ent 𝓤 (sep 𝓤 (Final k new xs) (Tells k before old new)) (Final k old (before xs))
@@ -75,15 +75,15 @@ module _ {M : Type 1} {𝓤 : Ura M} (𝓛 : Logic 𝓤) (T : RattleType) where
         let so : ent 𝓤 (Tells k before old new) (wand 𝓤 New Old) = record { apply = λ a says. says xs same } in
         via 𝓤 (sep 𝓤 New (wand 𝓤 New Old)) (mono_r 𝓤 New so) (apply∗ 𝓤 New Old)
 
-    -- what the calls put back
+    -- The items that the calls put back.
     abbrev back : Walk T k → List (Draw T k) → List (Entry T k) → List (Entry T k)
     back old = put_back_in_turn (side_of T k) (made T k) (left T k old)
 
-    -- nothing is taken yet
+    -- No item is taken yet.
     pub none_drawn : (walk : Walk T k) → ent 𝓤 (emp 𝓤) (sem 𝓛 (Puts T k [] walk walk))
     none_drawn walk = qed 𝓛 [] ∵ each ! _ (λ xs. each ! _ (λ same. assume ! (‵ (FinalItems T k walk xs)) $ done !))
 
-    -- one more of a list of calls
+    -- One more call of a list.
     pub nth_drawn : (draws : List (Draw T k)) (i : ℕ) (h : i < length draws) (old walk new : Walk T k) → let draw =
         nth_of draws i h in
         left T k walk ≡ remaining_in_turn (left T k old) (map (side_of T k) (take i draws)) → left T k new ≡
@@ -105,7 +105,7 @@ module _ {M : Type 1} {𝓤 : Ura M} (𝓛 : Logic 𝓤) (T : RattleType) where
         ) in
         rewrite ! 0 (λ (ys : List (Entry T k)). ‵ (FinalItems T k old ys)) is refl $ done !))
 
-    -- the iterator is dropped after all calls
+    -- The iterator is dropped after all calls.
     pub each_drawn : (draws : List (Draw T k)) (i : ℕ) → i ≡ length draws → (old new : Walk T k)
         (begun : List (Entry T k)) → left T k old ≡ begun
         → left T k new ≡ remaining_in_turn (left T k old) (map (side_of T k) (take i draws))

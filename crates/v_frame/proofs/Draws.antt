@@ -1,4 +1,5 @@
--- What calls of `next` and `next_back` give by counts is what they give one after another, and each item is given once.
+-- The items that calls of `next` and `next_back` yield by number are those that they yield in turn, and each item is
+-- yielded once.
 use Rattle.std.proofs.Common.{ℕ, ◌≡◌, ◌+◌, ◌-◌, ◌<◌, ◌≤◌, cond, not, suc, List, [], ◌∷◌, ◌++◌, length, map, take}
 use Rattle.std.proofs.Common.{reverse, Option, Some, None, slice_get, slice_set, get_or, refl, sym, ◌∙◌, ap, arith}
 use Rattle.std.proofs.Common.{append-nil, append_assoc, length-append, length-take-le, length-drop}
@@ -13,7 +14,7 @@ use Rattle.v_frame.specs.Walk.{draws_answer, given_by, AreCounted, AreDrawnOnce,
 use Rattle.v_frame.specs.DrawnItems.{put_back}
 use Rattle.v_frame_raster.proofs.tables.Lists.{slice_get-at, slice_set-at}
 
--- counts of some calls and some more
+-- The numbers of some calls and of further calls.
 pub fronts-append : (before sides : List Side) → fronts (before ++ sides) ≡ fronts before + fronts sides
 fronts-append before sides = sum_by-append (λ side. cond (is_front side) 1 0) before sides
 
@@ -39,7 +40,7 @@ abbrev pub answer : {X : Type 0} → Option X → ℕ → Drawn X
 answer item left = record { item = item; left = left }
 
 module _ {X : Type 0} where
-  -- an item that a call takes, and the items with it in its place
+  -- The item that a call takes, and the list with this item put back.
   pub taken : (side : Side) (x : X) (xs : List X) → (item : X) × (item_from side (x ∷ xs) ≡ Some item) ×
       (x ∷ xs ≡ put_back side (λ y. y) (Some item) (remaining_after side (x ∷ xs)))
   taken Front x xs = (x, refl, refl)
@@ -49,12 +50,12 @@ module _ {X : Type 0} where
       let last = taken Back y ys in
       (last.0, rw e (last.1), rw e (ap (λ rest. x ∷ rest) last.2))
 
-  -- `front` and `back` are as many items as some calls took from each side
+  -- `front` and `back` are the numbers of items that calls took from each side.
   pub record AreTaken (front back : List X) (before : List Side) : Type 0 where
     pub from_front : length front ≡ fronts before
     pub from_back : length back ≡ backs before
 
-  -- the same after one more call
+  -- The same numbers after one more call.
   abbrev pub front_with : Side → X → List X → List X
   front_with Front item front = front ++ item ∷ []
   front_with Back item front = front
@@ -92,7 +93,7 @@ module _ {X : Type 0} where
         so_far.from_back,
       )
 
-  -- the item that a call takes is at its number, by counts
+  -- The item that a call takes is the one at its number.
   pub at_number : (side : Side) (x : X) (xs front back : List X) (before : List Side) → AreTaken front back before →
       let all = front ++ (x ∷ xs ++ back) in let n = number_of_item side (length all) before in
       (slice_get all n ≡ item_from side (x ∷ xs)) ×
@@ -131,7 +132,7 @@ module _ {X : Type 0} where
       let rest = none_left items (before ++ side ∷ []) sides (omega (arith, length-append before (side ∷ []))) in
       rw (le-ltb (length before) (length items) none, count, rest) (sym (none_drawn side sides))
 
-  -- the items that are left are between those that calls took
+  -- The remaining items lie between those that the calls took.
   counted_between : (front items back : List X) (before sides : List Side) → AreTaken front back before →
       drawn_after (front ++ (items ++ back)) before sides ≡ drawn_in_turn items sides
   counted_between front items back before [] so_far = refl
@@ -179,7 +180,7 @@ module _ {X : Type 0} where
   pub drawn_once : (items : List X) (sides : List Side) → AreDrawnOnce items sides (draws_answer items sides)
   drawn_once items sides = rw (are_counted X items sides) (once_in_turn items sides)
 
-  -- where the calls are their sides
+  -- The calls are given by their sides.
   pub sides_drawn_once : (items : List X) (sides : List Side) (answers : List (Drawn X)) → answers ≡ draws_answer items
       (map (λ side. side) sides) →
       AreDrawnOnce items sides answers
@@ -191,7 +192,7 @@ module _ {X : Type 0} where
   length-remaining_in_turn items (side ∷ sides) = omega
       (arith, length-remaining_in_turn (remaining_after side items) sides, fewer side items)
 
-  -- as many calls as there are items leave nothing
+  -- If there are as many calls as items, no item remains.
   pub all_given : (items : List X) (sides : List Side) → length items ≤ length sides → AreAllGiven items sides
       (draws_answer items sides)
   all_given items sides enough =
@@ -199,7 +200,7 @@ module _ {X : Type 0} where
       in
       rw none at (drawn_once items sides)
 
-  -- one more call of a list
+  -- One more call of a list.
   drawn-push : (items : List X) (sides : List Side) (side : Side)
       → drawn_in_turn items (sides ++ side ∷ []) ≡ drawn_in_turn items sides ++
       answer (item_from side (remaining_in_turn items sides))
@@ -224,7 +225,7 @@ module _ {X : Type 0} where
     drawn_more answers item count before given counted = rw
         (take_more sides i side within, ← here, drawn-push, ← so_far, ← less) cc
 
-  -- the answers of all calls
+  -- The results of all calls.
   pub all_drawn : (items : List X) (sides : List Side) (n : ℕ) (answers : List (Drawn X)) → n ≡ length sides → answers
       ≡ drawn_in_turn items (take n sides) →
       answers ≡ draws_answer items sides

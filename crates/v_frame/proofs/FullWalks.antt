@@ -1,4 +1,4 @@
--- An iterator that replaces every pixel, from the front.
+-- An iteration from the front that replaces every pixel.
 use Rattle.std.proofs.Common.{ℕ, zero, suc, ◌≡◌, List, [], ◌∷◌, length, map, drop, All, refl, sym, ◌∙◌, ap}
 use Rattle.std.proofs.lemmas.List.{take-map, drop-map}
 use Rattle.v_frame_raster.specs.Table.{Table, row_major, cut_rows}
@@ -14,7 +14,7 @@ module _ {T : Type 0} where
   cut-map change width zero pixels = refl
   cut-map change width (suc height) pixels = rw (take-map, drop-map, cut-map change width height (drop width pixels))
 
-  -- each pixel is the first of those that are left
+  -- Each pixel is the first of the remaining pixels.
   all_replaced : (change : T → T) (pixels : List T) → let draws = map (λ pixel. front_draw (change pixel)) pixels in
       put_back_in_turn side_of_pixel pixel_written pixels draws (remaining_in_turn pixels (map side_of_pixel draws)) ≡
       map change pixels

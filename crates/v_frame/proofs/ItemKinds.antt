@@ -1,10 +1,13 @@
--- What an iterator that writes gives: rows, or pixels. A proof over a kind stands once: its last clause is checked for
--- each kind, where these words compute.
--- walk_row, draw_row     the types of the iterator and of a draw.        Walk, Draw, Entry     their values, and what a
--- draw changes
---     left, shown, rows_of, slice     what is left of the iterator, and of a plane's; its rows, and its slice
---     side_of, made, written     what a draw says.        FinalItems, Ends, Lends, Puts     how they end
---     Begins     how the iterator of a plane begins.        Promise, Kept     what a function says, and that it is so
+-- The items of an iterator that writes: rows or pixels. A proof is written once for both kinds. Its last clause is
+-- checked for each kind, for which these definitions compute.
+-- - walk_row, draw_row: the types of the iterator and of a draw.
+-- - Walk, Draw, Entry: their values, and the value that a draw changes.
+-- - left, shown, rows_of, slice: the remaining items of the iterator, the items of a plane, the rows of the iterator,
+--   and its slice.
+-- - side_of, made, written: the side of a draw, and its effects.
+-- - FinalItems, Ends, Lends, Puts: the final values of the items.
+-- - Begins: the initial state of the iterator of a plane.
+-- - Promise, Kept: the contract of a function, and the fact that it is met.
 use Rattle.v_frame_buffer.proofs.Steps.{◌≡◌, List, length, Option, MutBor, NamedLft, RattleType, Fml, Clauses, Logic}
 use Rattle.v_frame_buffer.proofs.Steps.{Ura, param, Running, Ended, closing, Meets, Callee, Model, All}
 use Rattle.v_frame_plane.specs.FinalPixels.{LendsFirstPixel, LendsLastPixel, PixelEndsAs, FinalPixels}
@@ -24,7 +27,7 @@ use Rattle.v_frame_plane.specs.contracts.rows_mut.RowsMut as rows_mut
 use Rattle.v_frame.specs.contracts.replay.draw.PixelDraw as pixel_draw
 use Rattle.v_frame.specs.contracts.replay.draw.RowDraw as row_draw
 
--- `neither` has a first clause of its own, so that a last clause is split
+-- `neither` has a separate first clause, so that the last clause is split by kind.
 pub data Kind : Type 0 where
   neither of_rows of_pixels : Kind
 
@@ -77,7 +80,7 @@ module _ (T : RattleType) where
   Ends of_pixels x = PixelEndsAs (param 0 T) x.ghost_name
   Ends _ x = EndsAs (param 0 T) x.ghost_name
 
-  -- what a call from a side leaves
+  -- The effect of a call from a side.
   abbrev pub Lends : (k : Kind) → Side → Walk k → Option (MutBor (Entry k)) → Walk k → Fml
   Lends of_pixels Front = LendsFirstPixel (param 0 T)
   Lends of_pixels Back = LendsLastPixel (param 0 T)
@@ -87,7 +90,7 @@ module _ (T : RattleType) where
   abbrev pub Puts : (k : Kind) → List (Draw k) → Walk k → Walk k → Fml
   Puts k = PutsBack (left k) (FinalItems k) (side_of k) (made k)
 
-  -- what is said of the plane, and what it ends as, by what the items end as
+  -- The clauses about the plane, and its final state, which follows from the final values of the items.
   abbrev pub LendsBack : (k : Kind) → MutBor (Raster T.Denot) → Walk k → Fml
   LendsBack of_pixels = LendsPixelTable (param 0 T)
   LendsBack _ = LendsRows (param 0 T)
@@ -96,7 +99,7 @@ module _ (T : RattleType) where
   EndsBy of_pixels = LendsPixelTable (param 0 T)
   EndsBy _ = LendsTable (param 0 T)
 
-  -- the law of what an iterator means
+  -- The law of the meaning of an iterator.
   abbrev pub Law : Kind → Fml
   Law of_pixels = DroppedPixelsKeepTheirValues (param 0 T)
   Law _ = RowsAreHeld (param 0 T)

@@ -1,8 +1,9 @@
--- Lending, in a proof by hand: a plane to an iterator over it, and an iterator to one call. Assumes `Logic`.
---     lends_plane, plane_back     the plane is lent for a lifetime within κT, and is there again, as it ended
---     rows_back     the same, from what its rows end as
---     lends_walk, walk_back     an iterator in a local is lent to a call, and is there again, as the call left it
---     begins     what `rows_mut` and `pixels_mut` say of the iterator that they give
+-- Loans in a hand-written proof: a plane is lent to an iterator over it, and an iterator is lent to one call. Assumes
+-- `Logic`.
+-- - lends_plane, plane_back: the plane is lent for a lifetime within κT, and comes back with its final value.
+-- - rows_back: the plane comes back with the final values of its rows.
+-- - lends_walk, walk_back: an iterator in a local is lent to a call, and comes back as the call left it.
+-- - begins: the clauses of `rows_mut` and `pixels_mut` about the iterator that they return.
 use Rattle.v_frame_buffer.proofs.Steps.{◌^◌, ◌<◌, Laws, NamedLft, framed, param_laws, refl, tables, ◌⊑◌, ℕ, ◌≡◌, List}
 use Rattle.v_frame_buffer.proofs.Steps.{[], ◌∷◌, length, MutBor, Lft, Share, Fml, fat, flent, flft, fsep, full_share}
 use Rattle.v_frame_buffer.proofs.Steps.{ent, sep, fact, RattleType, MutRef, mut_vals, mem, named, param, Val, vptr, Ura}
@@ -33,16 +34,16 @@ use base.Share
 use Rattle.v_frame_buffer.proofs.Loans as loans
 
 module _ {M : Type 1} {𝓤 : Ura M} (𝓛 : Logic 𝓤) (T : RattleType) where
-  -- a `&mut` to a plane
+  -- A `&mut` to a plane.
   abbrev pub Owned : Lft → MutBor (Raster T.Denot) → Item 𝓤
   Owned κ plane = ‵ ((MutRef (named 0) κ (the_row (param 0 T))).own_val plane (mut_vals plane))
 
-  -- what the plane's lender keeps
+  -- The part of the plane that its lender keeps.
   abbrev pub Kept_by : (α δ : ℕ) (κ κT : Lft) (q : Share) → MutBor (Raster T.Denot) → Item 𝓤
   Kept_by α δ κ κT q plane = ‵ (LentAgain (the_row (param 0 T)) κ (α ∷ κT) q plane.ghost_name plane.ref_ptr.0
       plane.ref_ptr.1 δ plane.now)
 
-  -- beside a plane that is lent: the tokens of its lifetime and of κT; what its lender keeps; the way back
+  -- The context beside a lent plane: the tokens of its lifetime and of κT; the lender's part; the way back.
   abbrev pub Loaned : (α δ : ℕ) (κ κT : Lft) (q qT : Share) → MutBor (Raster T.Denot) → List (Item 𝓤) → List (Item 𝓤)
   Loaned α δ κ κT q qT plane Γ = ‵ (flft (α ∷ κT) (share_within (Share.left qT))) ∷ ‵ (flft κT (Share.right qT)) ∷
       Kept_by α δ κ κT q plane ∷
@@ -73,7 +74,7 @@ module _ {M : Type 1} {𝓤 : Ura M} {𝓛 : Logic 𝓤} {K : Type 0} {Γ : List
         plane.now new) $ await t z $
         split t $ move t (2 ∷ 3 ∷ []) $ use2 𝓛 (‵ (flft κT qT)) (𝓛.lfts.lft_join κT qT) $ k)
 
-  -- [how the plane ends; the tokens of its lifetime and of κT; what its lender keeps; the way back]
+  -- Context: [how the plane ends; the tokens of its lifetime and of κT; the lender's part; the way back]
   pub table_back : K → Soaks G → (T : RattleType) (α δ : ℕ) (κ κT : Lft) (q qT : Share)
       (plane : MutBor (Raster T.Denot)) (table : List (List T.Denot)) →
       ((new : Raster T.Denot) → WritesTable plane.now new table → Seq K 𝓛 (‵ (flft κT qT) ∷ Owned 𝓛 T κ
@@ -84,7 +85,7 @@ module _ {M : Type 1} {𝓤 : Ura M} {𝓛 : Logic 𝓤} {K : Type 0} {Γ : List
 
   module _ (t : K) (z : Soaks G) (R : RattleType) (one : R.mir ≡ lone R.mir ∷ []) (τ : Ty)
       (same : raw_ty τ ≡ raw_ty (lone R.mir)) (κ : Lft) (q : Share) where
-    -- [what is lent; the tokens of the loan and of κ; what its lender keeps; the way back]
+    -- Context: [the loan; the tokens of the loan and of κ; the lender's part; the way back]
     pub lends_walk : (x : R.Denot) (b o : ℕ) (v : Val)
         → ((α γ : ℕ) → Seq K 𝓛 (‵ ((MutRef (named 0) (α ∷ κ) R).own_val
         (record { ref_ptr = (b, o); ghost_name = γ; now = x }) (vptr b o ∷ [])) ∷
@@ -103,13 +104,13 @@ module _ {M : Type 1} {𝓤 : Ura M} {𝓛 : Logic 𝓤} {K : Type 0} {Γ : List
         (fsep (fres γ (R.coded.code new)) said) ∷
         ‵ (flent (α ∷ κ) (Body (mem R) b o γ)) ∷ raw (Back 𝓛 α κ (Share.left q)) ∷ Γ) G
     walk_back α γ b o new v spelled = step (λ k. move t (0 ∷ 4 ∷ []) $ lft_over t z α κ (Share.left q) $
-        -- [the loan is over; both halves of the token of κ; the last value; what the lender keeps]
+        -- Context: [the loan is over; both halves of the token of κ; the last value; the lender's part]
         move t (1 ∷ 2 ∷ []) $ use2 𝓛 (‵ (flft κ q)) (𝓛.lfts.lft_join κ q) $ move t (2 ∷ []) $ fsplit t $ move t
         (3 ∷ 4 ∷ 0 ∷ []) $
         loans.comes_back t z R one τ same (α ∷ κ) γ b o new v spelled $ move t (2 ∷ []) $ drop t $ k)
 
 module _ {M : Type 1} {𝓤 : Ura M} (T : RattleType) (loan : MutBor (Raster T.Denot)) where
-  -- what the calls say
+  -- The clauses of the calls.
   abbrev Said : (k : Kind) → Walk T k → Item 𝓤
   Said of_pixels walk = ‵ (LendsBack T of_pixels loan walk) ⊛
       raw (fact 𝓤 (pixels_left walk ≡ row_major (table_of loan.now))) ⊛
@@ -160,7 +161,7 @@ module _ {M : Type 1} {𝓤 : Ura M} (𝓛 : Logic 𝓤) (𝓜 : Model 𝓤 𝓛
       Loaned 𝓛 T α δ κ κT q qT plane Γ) (lands 𝓣.C 𝓣.Λ E d u rest p))
       → Seq K 𝓛 (Owned 𝓛 T κ plane ∷ ‵ (flft κ q) ∷ ‵ (flft κT qT) ∷ Γ) (runs 𝓣.C 𝓣.Λ E (seq (call f xs d) rest) p)
 
-  -- the plane is lent to the iterator that a call gives
+  -- The plane is lent to the iterator that a call returns.
   pub begins_walk : (k : Kind) → Begun k
   begins_walk neither = tt
   begins_walk k = λ K Γ E p f xs d rest t opened m κ κT q qT plane inT os go. lends_plane t tt T κ κT q qT plane (λ α δ.

@@ -1,5 +1,5 @@
--- An `Option` by value, in a proof by hand: the proof goes on for each variant. by_ref is for an `Option` of a `&mut`.
--- Assumes `Logic`.
+-- An `Option` by value in a hand-written proof: the proof continues for each variant. by_ref is for an `Option` of a
+-- `&mut`. Assumes `Logic`.
 use Rattle.v_frame_buffer.proofs.Steps.{Lft, MutBor, MutRef, mut_vals, peeks, rewrite, shows, ◌≡◌, List, [], ◌∷◌}
 use Rattle.v_frame_buffer.proofs.Steps.{Option, Some, None, refl, ap, ◌∙◌, RattleType, only, Val, of_list, vptr, Ura}
 use Rattle.v_frame_buffer.proofs.Steps.{Goal, Item, Seq, ‵, ◌$◌, drop, feq_l, fpick, fsplit, live, move, Logic, Is}
@@ -18,7 +18,7 @@ module _ {M : Type 1} {𝓤 : Ura M} {𝓛 : Logic 𝓤} {K : Type 0} {Γ : List
       feq_l t (λ is. fsplit t $ move t (1 ∷ []) $ drop t $ some x vss.0 refl (ap only e ∙
       ap (λ (ws : List Val). live 1 (of_list ws)) (is ∙ append-nil vss.0))))))
 
-  -- of a type whose machine value its value says
+  -- A type whose values determine their machine values.
   pub by_told : K → (X : RattleType) (lowered : X.Denot → Val) →
       ((x : X.Denot) (vs : List Val) → Is X x vs → vs ≡ lowered x ∷ []) → (r : Option X.Denot) (v :
       Val) → (r ≡ None → v ≡ live 0 (of_list []) → Seq K 𝓛 Γ G)

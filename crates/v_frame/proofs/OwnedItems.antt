@@ -1,6 +1,5 @@
--- What an iterator that lends owns, what it leaves where it is dropped, and what one of its items takes in memory: for
--- rows and for pixels.
--- Assumes `Logic`.
+-- The resources of an iterator that lends, the effect of dropping it, and the memory of one of its items, for rows
+-- and for pixels. Assumes `Logic`.
 use Rattle.v_frame.proofs.Steps.{w64}
 use Rattle.v_frame_buffer.proofs.Steps.{Item, List, Val}
 use Rattle.v_frame_buffer.proofs.Steps.{param, sep, wand, via, mono_r, apply∗, SProp, MutBor, ‵, raw, ◌$◌, ◌∵◌, ◌∷◌, qed, done, frame, fsplit, move, use2}
@@ -49,8 +48,8 @@ module _ (T : RattleType) where
     by Gives New Last gives = via 𝓤 (sep 𝓤 (sem 𝓛 New) (wand 𝓤 (sem 𝓛 New) (sem 𝓛 Last)))
         (mono_r 𝓤 (sem 𝓛 New) gives) (apply∗ 𝓤 (sem 𝓛 New) (sem 𝓛 Last))
 
-    -- by the law, an iterator that is dropped has as final values what it shows, and the plane ends by those with which
-    -- one began
+    -- By the law, the final values of a dropped iterator are its current items, and the final plane follows from the
+    -- final values of the iterator with which it began.
     pub by_law : (k : Kind) (ℓ : NamedLft) (walk begun : Walk T k) (vs : List Val) (plane : MutBor (Raster T.Denot)) →
         Begins T k plane.now begun →
         ent 𝓤 (sep 𝓤 (sem 𝓛 (Law T k)) (sep 𝓤 (sem 𝓛 (Owned k ℓ walk vs)) (sem 𝓛 (LendsBack T k plane begun))))
@@ -67,7 +66,7 @@ module _ (T : RattleType) where
         (by (HeldRowsAreTheTable (param 0 T)) (LendsBack T k plane begun) (EndsBy T k plane begun)
         (held_rows plane begun begins.tells.0)) $ done !
 
-  -- the iterator where no lifetime is named
+  -- The iterator without a named lifetime.
   abbrev pub bare : Kind → Ty
   bare k = lone (walk_row k (record { mir = erased; lft = [] }) (param 0 T)).mir
 

@@ -1,4 +1,4 @@
--- A call on one plane of a frame is a call on the table that the plane shows.
+-- A call on one plane of a frame is a call on the table of this plane.
 use Rattle.std.proofs.Common.{ℕ, ◌≡◌, Option, Some, None, option_map, sym, ◌∙◌, ap, rules}
 use Rattle.std.specs.Borrow.{MutBor}
 use Rattle.std.specs.Option.{option_copied_mut}
@@ -10,27 +10,27 @@ use Rattle.v_frame.specs.Replay.{named_plane, written_plane, on_table, on_tables
 use Rattle.v_frame.specs.declared.frame.Frame.{Frame}
 use Rattle.v_frame.specs.declared.replay.call.VisibleCall.{VisibleCall}
 
--- a call writes the plane that it names, or none
+-- A call writes the plane that it names, or no plane.
 idle : {T : Type 0} (call : VisibleCall T) (other : ℕ) → named_plane call ≡ other →
     (written_plane call ≡ Some other → ⊥) → written_plane call ≡ None
 idle call other named unwritten = search rules
 
 module _ {T : Type 0} (frame : Frame T) where
-  -- the table of an index is that of the plane there
+  -- The table with an index is that of the plane with this index.
   table_shown : (index : ℕ) → table_at (tables_of frame) index ≡ option_map table_of (plane_at frame index)
   table_shown index = search rules
 
-  -- a frame with another plane shows another table there
+  -- A frame with a plane replaced has the table of this plane replaced.
   tables_shown : (index : ℕ) (plane : Raster T) → tables_of (with_plane frame index plane) ≡ with_table
       (tables_of frame) index (table_of plane)
   tables_shown index plane = search rules
 
-  -- a plane beside the one that is replaced stays, and so does that one where it is replaced by itself
+  -- Replacing a plane keeps all other planes. Replacing a plane by itself changes nothing.
   stays : (index other : ℕ) (plane new : Raster T) → plane_at frame index ≡ Some plane → (index ≡ other → new ≡ plane)
       → plane_at (with_plane frame index new) other ≡ plane_at frame other
   stays index other plane new here same = search rules
 
-  -- the plane that was lent is the one that the call names
+  -- The lent plane is the one that the call names.
   pub found : (call : VisibleCall T) (index : ℕ) (result : Option (MutBor (Raster T))) (lent : MutBor (Raster T)) →
       index ≡ named_plane call
       → option_copied_mut result ≡ plane_at frame index → result ≡ Some lent → plane_at frame (named_plane call) ≡ Some

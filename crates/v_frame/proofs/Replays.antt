@@ -1,4 +1,4 @@
--- A replay, call after call: what one more call adds to the answers, the tables and the planes that may be written.
+-- A replay, call by call: the effect of one more call on the results, the tables and the planes that may be written.
 use Rattle.std.proofs.Common.{ℕ, ◌≡◌, ◌+◌, ◌<◌, List, [], ◌∷◌, ◌++◌, length, take, get_or, Some, Any, length-take, refl}
 use Rattle.std.proofs.Common.{sym, ◌∙◌, ap, arith}
 use Rattle.std.proofs.lemmas.List.{take_more, take-take, get_or-take}
@@ -9,7 +9,7 @@ use Rattle.v_frame.specs.declared.frame.Frame.{Frame}
 use Rattle.v_frame.specs.declared.replay.answer.Answer.{Answer}
 use Rattle.v_frame.specs.declared.replay.call.VisibleCall.{VisibleCall}
 
--- an element of a list's front is one of the list
+-- An element of the front of a list is an element of the list.
 any_of_front : {X : Type 0} (P : X → Type 0) (xs : List X) (n : ℕ) → Any P (take n xs) → Any P xs
 any_of_front P xs n h =
     let front : h.0 < n = omega (arith, h.2, length-take n xs) in
@@ -30,7 +30,7 @@ module _ {T : Type 0} (form : PixelForm T) where
   tables_after-push [] call tables = refl
   tables_after-push (first ∷ calls) call tables = tables_after-push calls call (reply_to form first tables).tables
 
-  -- one more call of a list
+  -- One more call of a list.
   module _ (calls : List (VisibleCall T)) (i : ℕ) (call : VisibleCall T) (within : i < length calls)
       (here : call ≡ get_or calls i call) where
     pub answers_more : (old now : Tables T) (done : List (Answer T)) (answer : Answer T) → now ≡ tables_after form
@@ -46,7 +46,7 @@ module _ {T : Type 0} (form : PixelForm T) where
     tables_more old now new tables is = rw (take_more calls i call within, ← here, tables_after-push, ← tables) is
 
 module _ {T : Type 0} where
-  -- planes that the first calls may write, and that one more may
+  -- The planes that the first calls may write, and those that one more call may write.
   module _ (calls : List (VisibleCall T)) (i : ℕ) (call : VisibleCall T) (within : i < length calls)
       (here : call ≡ get_or calls i call) where
     pub written_before : (index : ℕ) → WritesPlane (take i calls) index → WritesPlane (take (i + 1) calls) index
@@ -67,7 +67,7 @@ module _ {T : Type 0} where
       calls index
   written_in_front calls i index h = any_of_front (λ (c : VisibleCall T). written_plane c ≡ Some index) calls i h
 
-  -- what is kept twice is kept
+  -- A border that is kept twice is kept.
   pub keeps_border_twice : (a b c : Frame T) → KeepsBorders a b → KeepsBorders b c → KeepsBorders a c
   keeps_border_twice a b c h k = record {
     subsampling = k.subsampling ∙ h.subsampling;

@@ -1,5 +1,5 @@
--- One element of a slice for reading, by its number: what a `&` to it holds, and one element more of a list. Assumes
--- `Logic`.
+-- One element of a slice that is read by its index: the value behind a `&` to it, and one more element of a list.
+-- Assumes `Logic`.
 use Rattle.v_frame_buffer.proofs.Steps.{RattleType, Val, vptr, mem, Goal, Item, Step, step, feq_i, fjoin, ℕ, ◌≡◌, ◌+◌}
 use Rattle.v_frame_buffer.proofs.Steps.{◌*◌, ◌<◌, List, [], ◌∷◌, ◌++◌, length, take, refl, ap, arith, Lft, ent, Ura, ‵}
 use Rattle.v_frame_buffer.proofs.Steps.{◌$◌, ◌∵◌, !, qed, done, fsplit, keep, rewrite, use1, Logic, sem, Fml}
@@ -36,7 +36,7 @@ module _ {D : Type 0} where
         use1 𝓛 (‵ (c (nth_of xs i (omega arith)) b (place size (o + size) i) κ))
         (shared_at xs (o + size) i (omega arith)) $ done !
 
--- a `&` to an element that a `&` to the slice gives
+-- A `&` to an element, taken from a `&` to the slice.
 module _ {M : Type 1} {𝓤 : Ura M} {𝓛 : Logic 𝓤} {K : Type 0} {Γ : List (Item 𝓤)} {G : Goal 𝓤 𝓛.H} where
   pub lends_nth : K → (R : RattleType) → RowLaws R → (ℓ : Lifetime) (κ : Lft) (xs : List R.Denot) (b o i : ℕ)
       (h : i < length xs)

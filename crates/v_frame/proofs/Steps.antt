@@ -1,5 +1,5 @@
--- The names of the logic that proofs by hand of what writes through held rows and pixels cite, passed on from one
--- place. Declares nothing.
+-- The names of the logic that hand-written proofs about kept rows and pixels cite, re-exported from one place.
+-- Declares nothing.
 pub use Rattle.std.proofs.Common.{replicate}
 pub use Rattle.std.proofs.Math.Nat.{mul-le-mul_right}
 pub use Rattle.std.proofs.alloc.Shapes.{arm_body}

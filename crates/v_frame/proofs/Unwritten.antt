@@ -1,4 +1,4 @@
--- Calls of a writing iterator that write nothing leave its items as before, and so the plane where its border is kept.
+-- Calls of a writing iterator that write nothing keep its items, and therefore the plane if its border is kept.
 use Rattle.std.proofs.Common.{◌≡◌, List, [], None, All, get_or, length, refl, sym, ◌∙◌, ap}
 use Rattle.std.proofs.lemmas.List.{map-id}
 use Rattle.v_frame_raster.specs.{Geometry.alloc_size_of, Table.row_major}
@@ -22,7 +22,7 @@ module _ {X D : Type 0} (side_of : D → Side) (make : D → X → X) where
       map-id items
 
 module _ {T : Type 0} where
-  -- whole buffers, as `data` shows them
+  -- Whole buffers, as `data` returns them.
   module _ (old new : Raster T) (before after : List T) (is_old : before ≡ old.buffer) (is_new : after ≡ new.buffer)
       (whole_old : length before ≡ alloc_size_of old.geometry) (whole_new : length after ≡ alloc_size_of new.geometry)
       (border : KeepsBorder old new) where

@@ -1,6 +1,5 @@
--- What is drawn from an iterator and changed: the item that a call gives, and the promises of the functions that draw
--- and change it, by the kind that the
--- iterator is of. Assumes `Logic`.
+-- An item that is taken from an iterator and changed: the item that a call yields, and the contracts of the functions
+-- that take and change it, for each kind of iterator. Assumes `Logic`.
 use Rattle.v_frame.proofs.Steps.{finally-res, mut_ref_field, mut_ref_laws, mut_ref_shared}
 use Rattle.v_frame_buffer.proofs.Steps.{List, MutRef, MutSlice, Val, done, fsplit, is, keep, named, param, param_laws}
 use Rattle.v_frame_buffer.proofs.Steps.{refl, use1, vptr, yes, !, [], ‵, ◌$◌, ◌∷◌, ◌≡◌, Fml, NamedLft, Lft, Is}
@@ -22,7 +21,7 @@ module _ (T : RattleType) where
   draws_laws _ laws = (row_draw_laws.the_row_laws (param 0 T) (param_laws 0 T laws)).shr_laws
 
   module _ (κ : Lft) where
-    -- the item that a call gives, its laws, and its machine value
+    -- The item that a call yields, its laws, and its machine value.
     abbrev pub given : Kind → RattleType
     given of_pixels = MutRef (named 1) κ (param 0 T)
     given _ = MutSlice (named 1) κ (param 0 T)
@@ -41,7 +40,7 @@ module _ (T : RattleType) where
     value_is of_pixels x vs is = is.0
     value_is _ x vs is = is.0.0
 
-    -- what it is left as
+    -- The final value of the item.
     abbrev pub Left : (k : Kind) (x : (given k).Denot) → Last ((given k).exit yes) x → Fml
     Left of_pixels x = Ends T of_pixels x
     Left k x = Ends T k x

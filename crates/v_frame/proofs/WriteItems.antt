@@ -1,8 +1,6 @@
--- A whole iteration of calls that write: the plane is lent to an iterator, each draw writes into the item that it takes
--- from it in a loop, and it is dropped.
--- Rattle learns nothing of what the iterator says of held items, so the proof follows the code. It stands once for rows
--- and pixels: see `ItemKinds.antt`.
--- Assumes `Logic`.
+-- A whole iteration of calls that write. The plane is lent to an iterator. In a loop, each draw takes an item from it
+-- and writes into the item. Then the iterator is dropped. Generated proofs know nothing about kept items, so this
+-- hand-written proof follows the code. It covers rows and pixels: see `ItemKinds.antt`. Assumes `Logic`.
 use Rattle.v_frame.proofs.Steps.{arm_body, copied, option_copied_mut, option_laws, option_row, SliceRefOf, after_turn}
 use Rattle.v_frame.proofs.Steps.{fhide, lt-wf_rel, mul-le-mul_right, shr_slice_vals, spot_of, tables_of, w64}
 use Rattle.v_frame_buffer.proofs.Steps.{Goes-dropped, Item, List, MutBor, Option, SProp, ShrRef, Sq, Stays, Val, Wp}
@@ -58,7 +56,7 @@ module _ {M : Type 1} {𝓤 : Ura M} (𝓛 : Logic 𝓤) (𝓜 : Model 𝓤 𝓛
   writes_items of_pixels = (write_pixels.ended T clone dict, write_pixels.clauses T clone dict 𝓛 𝓜.mem 𝓡.returns)
   writes_items _ = (write_rows.ended T clone dict, write_rows.clauses T clone dict 𝓛 𝓜.mem 𝓡.returns)
 
-  -- the code, of the names and types that it has, and of the functions that it calls
+  -- The code, given the names and types in it and the called functions.
   module _ (option side : Sym) (kept drawing lent whole_plane read entry : Ty)
       (opening asking ahead behind changing dropping : Callee) where
     abbrev handed : Kind → Ty
@@ -76,7 +74,7 @@ module _ {M : Type 1} {𝓤 : Ura M} (𝓛 : Logic 𝓤) (𝓜 : Model 𝓤 𝓛
     abbrev changes_by : ℕ → Body
     changes_by i = gets 18 changing (value i ∷ value 5 ∷ [])
 
-    -- a row is a pointer and a length, which are put together again
+    -- A row is a pointer and a length, which are put together again.
     abbrev lends_on : Kind → Body
     lends_on of_pixels = seq (set 19 (addr_of (place 7 (deref entry ∷ [])))) (changes_by 19)
     lends_on _ = in_order (set 19 (addr_of (place 7 (field 0 ∷ deref entry ∷ []))) ∷ set 20
@@ -89,7 +87,7 @@ module _ {M : Type 1} {𝓤 : Ura M} (𝓛 : Logic 𝓤) (𝓜 : Model 𝓤 𝓛
     abbrev draws_by : ℕ → Callee → Body
     draws_by i drawn = in_order (set i (addr_of (place 3 [])) ∷ []) (gets 15 drawn (value i ∷ []))
 
-    -- an item is drawn, and where there is one it is changed
+    -- An item is taken, and changed if there is one.
     abbrev written_by : Kind → Body
     written_by k = switch (tag 6) (arm (1 ∷ []) (in_order
         (set 7 (rv_opd (copy (place 6 (variant 1 ∷ field 1 ∷ [])))) ∷ []) (lends_on k))
@@ -140,7 +138,7 @@ module _ {M : Type 1} {𝓤 : Ura M} (𝓛 : Logic 𝓤) (𝓜 : Model 𝓤 𝓛
     abbrev 𝓣 : MachineTables 𝓤 𝓛.H 𝓜
     𝓣 = tables 𝓤 𝓛.H 𝓜 𝓡 𝓡.env
 
-    -- the local in which the item is lent on, and what is new in the locals then
+    -- The local through which the item is passed on, and the changes of the locals.
     abbrev relent : (κ : Lft) (k : Kind) (x : (given T κ k).Denot) → ℕ × List (ℕ × Val)
     relent κ of_pixels x = (19, (19, its_value T κ of_pixels x) ∷ [])
     relent κ k x = (20, (19, vptr x.ref_ptr.0 x.ref_ptr.1) ∷ (20, its_value T κ k x) ∷ [])
@@ -191,7 +189,7 @@ module _ {M : Type 1} {𝓤 : Ura M} (𝓛 : Logic 𝓤) (𝓜 : Model 𝓤 𝓛
         are.1.0.0.1.1 in
         let Each : Fml = fhide (elements_shared Read draws bd od κd) in
         opened 𝓛 En₀.signature κs qs a (mut_vals plane, (shr_slice_vals a.1.0, tt)) (κT ⊑ T.lives) (λ inT.
-        -- [the tokens of κ, κd and κT; the plane; the draws]
+        -- Context: [the tokens of κ, κd and κT; the plane; the draws]
         move ! (4 ∷ []) $ fsplit ! $ drop ! $ enter ! _ _ _ _ _ $ alloc_all ! (λ l.
         pass_all ! refl ((tt, tt), ((tt, (tt, (record { fits = n_fits }, tt))), tt)) $ let En = env function.locals l in
         sets ! (addr ! (through ! refl (stop !))) refl (tt, tt) $ move ! (4 ∷ 1 ∷ 3 ∷ []) $
@@ -203,12 +201,12 @@ module _ {M : Type 1} {𝓤 : Ura M} (𝓛 : Logic 𝓤) (𝓜 : Model 𝓤 𝓛
         (lowers 𝓛 𝓜 𝓡 T laws k ℓ).lowered in
         let spelled = (lowers 𝓛 𝓜 𝓡 T laws k ℓ).val_is in
         lands_as ! refl refl typed.0 $ sets ! (of_opd ! (get ! refl)) refl typed.0 $
-        -- [the iterator; how the plane ends; the tokens of κw and κT; the plane's lender; the way back; the draws; the
-        -- token of κd; the locals]
+        -- Context: [the iterator; how the plane ends; the tokens of κw and κT; the plane's lender; the way back; the
+        -- draws; the token of κd; the locals]
         let Shows : Item 𝓤 = ‵ (LendsBack T k loan w) in let Lender : Item 𝓤 = Kept_by 𝓛 T α δ κ κT q
         plane in
         let turning = turn k in let behind_loop = ends_so k in
-        -- so many of the draws are done, and these items are left
+        -- Some of the draws are done, and these items remain.
         let State : Type 0 = (s : ℕ × Walk T k) × (s.0 ≤ n) ×
         (left T k s.1 ≡ remaining_in_turn (left T k w) (map (side_of T k) (take s.0 draws))) in
         let Nearer : State → State → Type 0 = λ t u. n - t.0.0 < n - u.0.0 in
@@ -240,8 +238,8 @@ module _ {M : Type 1} {𝓤 : Ura M} (𝓛 : Logic 𝓤) (𝓜 : Model 𝓤 𝓛
         let After : Out → SProp 𝓤 = after_block 𝓤 𝓛.H
         (after_seq 𝓤 𝓛.H (Wp 𝓤 𝓛.H 𝓣.C 𝓣.Λ En goes_on (Turned t)) (Turned t)) in
         let Then : Exits 𝓤 𝓛.H = any_q (after_seq 𝓤 𝓛.H (Wp 𝓤 𝓛.H 𝓣.C 𝓣.Λ En (drawn_by k) After) After) in
-        -- [what is put back; the iterator; the tokens of κw, κT and κd; the draws; what was put back; the rest; the
-        -- locals]
+        -- Context: [the items to put back; the iterator; the tokens of κw, κT and κd; the draws; the items put back;
+        -- the rest; the locals]
         let finish : (new : Walk T k) → left T k new ≡ remaining_after d.side (left T k walk) → Sq 𝓛
         (‵ (Taken new) ∷ ‵ (Walking.own_val new (low new ∷ [])) ∷
         ‵ (flft κw qw) ∷ ‵ (flft κT rT) ∷ ‵ (flft κd qd) ∷ ‵ Each ∷ ‵ (Puts T k (take i draws) w walk) ∷ Shows ∷ Lender
@@ -255,9 +253,9 @@ module _ {M : Type 1} {𝓤 : Ura M} (𝓛 : Logic 𝓤) (𝓜 : Model 𝓤 𝓛
         (nth_drawn 𝓛 T k draws i h w walk new t.2 fewer) $ move ! (1 ∷ 0 ∷ []) $
         again ! Nearer Now t ((i + 1, new), omega (arith, h), nth_left (side_of T k) _ draws i h _ _ t.2 fewer)
         (omega (arith, h)) in
-        -- what is done with the item, once it is drawn: [the iterator; the token of κw; the item; what is lent; what is
-        -- said; the tokens of κT and κd; nothing;
-        -- the draw; the draws; what was put back; the rest; the locals]
+        -- The code that changes the item after it is taken. Context: [the iterator; the token of κw; the item; the
+        -- loan; the clauses; the tokens of κT and κd; nothing; the draw; the draws; the items put back; the rest; the
+        -- locals].
         let writes : (v : Val) (r : Option (MutBor (Entry T k))) (new : Walk T k) → Sq 𝓛
         (‵ (Walking.own_val new (low new ∷ [])) ∷ ‵ (flft κw qw) ∷
         ‵ (Gives.own_val r (v ∷ [])) ∷ (Draws 𝓛 T k walk r new d.side ++ ‵ (flft κT rT) ∷ ‵ (flft κd qd) ∷ ‵ ftrue ∷
@@ -273,8 +271,8 @@ module _ {M : Type 1} {𝓤 : Ura M} (𝓛 : Logic 𝓤) (𝓜 : Model 𝓤 𝓛
         switches_on ! (get_tag ! (vrt ! refl (fld ! refl (stop !))) (whole !)) $ exec ! 𝓣.C 𝓣.Λ En
         (arm_body 1 (written_by k)) (any_q After) $
         skips ! $ exec ! 𝓣.C 𝓣.Λ En goes_on (any_q (Turned t)) $
-        -- [the iterator; the token of κw; what is lent; the tokens of κT and κd; nothing; the draw; the draws; what was
-        -- put back; the rest]
+        -- Context: [the iterator; the token of κw; the loan; the tokens of κT and κd; nothing; the draw; the draws;
+        -- the items put back; the rest]
         move ! (5 ∷ 6 ∷ 2 ∷ []) $ drop ! $ drop ! $
         rewrite ! 0 (λ (z : Option (MutBor (Entry T k))). ‵ (Lends T k d.side walk z new)) is_none refl $
         use1 𝓛 (‵ (Taken new)) (none_taken 𝓛 T d.side k (made T k d) walk new
@@ -288,8 +286,8 @@ module _ {M : Type 1} {𝓤 : Ura M} (𝓛 : Logic 𝓤) (𝓜 : Model 𝓤 𝓛
         (tt, item_fits) $
         lends_item κw k x item_fits l (vptr b o) (slice_val (bd, od) n) (low new) (vint w64 i) (vptr bd p) (vint w64 n)
         v $
-        -- [the item; the iterator; the token of κw; what is lent; the tokens of κT and κd; nothing; the draw; the
-        -- draws; what was put back; the rest]
+        -- Context: [the item; the iterator; the token of κw; the loan; the tokens of κT and κd; nothing; the draw;
+        -- the draws; the items put back; the rest]
         calls_last ! (2 ∷ 5 ∷ 4 ∷ 0 ∷ 7 ∷ []) run (changes 𝓛 𝓜 𝓡 T clone dict k).0 (changes 𝓛 𝓜 𝓡 T clone dict k).1
         changed (
           (
@@ -306,8 +304,8 @@ module _ {M : Type 1} {𝓤 : Ura M} (𝓛 : Logic 𝓤) (𝓜 : Model 𝓤 𝓛
         (λ u last. raw (fact 𝓤 (last.0 ≡ made T k d x.now)) ∷ []) (λ u last. id⊢ 𝓤 _)
         (λ z u last. feq_l ! (λ is_unit. heard ! _ (λ changed_so.
         lands_last ! refl (unit_fits is_unit) $ exec ! 𝓣.C 𝓣.Λ En goes_on (any_q (Turned t)) $
-        -- [the tokens of κw, κd and κT; how the item ends; nothing; the iterator; what is lent; nothing; the draws;
-        -- what was put back; the rest]
+        -- Context: [the tokens of κw, κd and κT; how the item ends; nothing; the iterator; the loan; nothing; the
+        -- draws; the items put back; the rest]
         move ! (4 ∷ 7 ∷ 3 ∷ []) $ drop ! $ drop ! $ use1 𝓛 (‵ (Left T κw k x last.0)) (left_as T κw 𝓛 k x last.0) $
         rewrite ! 0 (λ (z : Entry T k). ‵ (Ends T k x z)) changed_so refl $
         rewrite ! 5 (λ (z : Option (MutBor (Entry T k))). ‵ (Lends T k d.side walk z new)) is_item refl $ move !
@@ -315,24 +313,25 @@ module _ {M : Type 1} {𝓤 : Ura M} (𝓛 : Logic 𝓤) (𝓜 : Model 𝓤 𝓛
         use2 𝓛 (‵ (Taken new)) (item_taken 𝓛 T d.side k (made T k d) walk new x
         (sym (ap option_copied_mut (sym is_item) ∙ gave.0))) $
         move ! (0 ∷ 4 ∷ 1 ∷ 3 ∷ 2 ∷ []) $ forget_but ! En (1 ∷ 2 ∷ 3 ∷ 4 ∷ 10 ∷ []) refl $ finish new gave.1)))))) in
-        -- [the iterator; what was put back; the tokens of κw, κT and κd; the draws; the rest; the locals]
+        -- Context: [the iterator; the items put back; the tokens of κw, κT and κd; the draws; the rest; the locals]
         move ! (5 ∷ []) $ lends_nth ! Read (draws_laws T k laws) (named 2) κd draws bd od i h $ read_twice ! (named 2)
         κd Read (draws_laws T k laws) ι $
-        -- [the draw, twice; the draws; the iterator; what was put back; the tokens of κw, κT and κd; the rest]
+        -- Context: [the draw, twice; the draws; the iterator; the items put back; the tokens of κw, κT and κd; the
+        -- rest]
         calls ! (7 ∷ 6 ∷ 0 ∷ []) run (asks 𝓛 𝓜 𝓡 T k).0 (asks 𝓛 𝓜 𝓡 T k).1 asked
         (((κd, (κT, tt)), (qd, (rT, tt)), (inw', tt), (ι, tt), (vptr bd p ∷ [], tt)), tt) (asks_that 𝓤 inT) refl
         (and_then ! (get ! refl) (no_more !)) (λ s us. raw (fact 𝓤 (s ≡ d.side)) ∷ []) (λ s us. id⊢ 𝓤 _)
         (λ u s us. move ! (1 ∷ []) $ heard ! _ (λ is_side.
-        -- [the side; the tokens of κd and κT; nothing; the draw; the draws; the iterator; what was put back; the token
-        -- of κw; the rest]
+        -- Context: [the side; the tokens of κd and κT; nothing; the draw; the draws; the iterator; the items put
+        -- back; the token of κw; the rest]
         by_side ! s u (λ is_front e. lands_as ! e refl (tt, (record { fits = lit< tt }, tt)) $ first ! $
         switches_on ! (get_tag ! (vrt ! refl (fld ! refl (stop !))) (whole !)) $ exec ! 𝓣.C 𝓣.Λ En (draws_by 16 ahead)
         Then $
         sets ! (addr ! (from ! (stop !))) refl (tt, tt) $ take_at ! 3 $ move ! (0 ∷ 6 ∷ 8 ∷ []) $
         lends_walk ! tt Walking refl τ refl κw qw walk (l 3) 0 (low walk)
         (λ β γ. let κc = β ∷ κw in let inw = meet_⊑_right (β ∷ []) κw in
-        -- [the iterator, lent; the tokens of κc and κw; its lender; the way back; the tokens of κd and κT; nothing; the
-        -- draw; the draws; what was put back; ..]
+        -- Context: [the lent iterator; the tokens of κc and κw; its lender; the way back; the tokens of κd and κT;
+        -- nothing; the draw; the draws; the items put back; ..]
         calls_last ! (1 ∷ 2 ∷ 6 ∷ 0 ∷ []) run (draws_of Front).0 (draws_of Front).1 first_drawn (
           (
             (κc, (κw, (κT, tt))),
@@ -347,8 +346,8 @@ module _ {M : Type 1} {𝓤 : Ura M} (𝓛 : Logic 𝓤) (𝓜 : Model 𝓤 𝓛
         (λ r us. from_front 𝓛 T k walk r us.0 d.side (sym is_side ∙ is_front)) (λ v r us.
         move ! (3 ∷ 4 ∷ 6 ∷ 7 ∷ 8 ∷ []) $ walk_back ! tt Walking refl τ refl κw qw β γ (l 3) 0 us.0 (low us.0)
         (λ z is. ap only (spelled us.0 (z ∷ []) is)) $ give_at ! 3 $
-        -- [the iterator; the token of κw; the item; what is lent; what is said; the tokens of κT and κd; nothing; the
-        -- draw; the draws; ..]
+        -- Context: [the iterator; the token of κw; the item; the loan; the clauses; the tokens of κT and κd; nothing;
+        -- the draw; the draws; ..]
         forget_but ! En (1 ∷ 2 ∷ 3 ∷ 4 ∷ 5 ∷ 10 ∷ []) refl $ writes v r us.0)))
         (λ is_back e. lands_as ! e refl (tt, (record { fits = lit< tt }, tt)) $ first ! $
         switches_on ! (get_tag ! (vrt ! refl (fld ! refl (stop !))) (whole !)) $ exec ! 𝓣.C 𝓣.Λ En (draws_by 17 behind)
@@ -373,16 +372,16 @@ module _ {M : Type 1} {𝓤 : Ura M} (𝓛 : Logic 𝓤) (𝓜 : Model 𝓤 𝓛
         forget_but ! En (1 ∷ 2 ∷ 3 ∷ 4 ∷ 5 ∷ 10 ∷ []) refl $ writes v r us.0))))))
         (λ over. let all : i ≡ n = omega (arith, nltb→le i n over, t.1) in
         jumps ! $ exec ! 𝓣.C 𝓣.Λ En behind_loop (at_ret En Post) $
-        -- [the iterator; what was put back; the tokens of κw, κT and κd; the draws; how the plane ends; its lender; the
-        -- way back; the locals]. The law of the iterator is called
+        -- Context: [the iterator; the items put back; the tokens of κw, κT and κd; the draws; how the plane ends; its
+        -- lender; the way back; the locals]. The law of the iterator is called.
         calls ! (3 ∷ []) run (law 𝓛 𝓜 𝓡 T k).0 (law 𝓛 𝓜 𝓡 T k).1 law_holds (((κT, tt), (rT, tt), tt, tt, tt), tt)
         (asks_that 𝓤 inT) refl (no_more !) (λ r us. ‵ (Law T k) ∷ []) (λ r us. id⊢ 𝓤 _)
         (λ v r us. feq_l ! (λ is_unit. lands_as ! (ap only is_unit) refl (tt, tt) $
-        -- the iterator is dropped, and the plane comes back as its items end
+        -- The iterator is dropped, and the plane comes back with the final values of its items.
         move ! (0 ∷ 2 ∷ 7 ∷ []) $ use3 𝓛 (‵ (FinalItems T k walk (left T k walk)) ⊛ ‵ (EndsBy T k loan w))
         (by_law T 𝓛 k ℓ walk w (low walk ∷ []) loan begun) $ split ! $
-        -- [the final items; how the plane ends; the token of κT; what was put back; the tokens of κw and κd; the draws;
-        -- the plane's lender; the way back]
+        -- Context: [the final items; how the plane ends; the token of κT; the items put back; the tokens of κw and
+        -- κd; the draws; the plane's lender; the way back]
         let table = table_of plane.now in let first_shown = shown T k plane.now in let second = walk_leaves
         (side_of T k) (made T k) first_shown draws in
         let last = written T k table draws in

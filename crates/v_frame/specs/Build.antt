@@ -1,4 +1,4 @@
--- What a builder is asked for, which frames can be built, and what a built frame holds.
+-- The request to a frame builder, the frames that can be built, and the contents of a new frame.
 use Rattle.std.specs.Prelude.{ℕ, ◌*◌, ◌≡◌, ◌==◌, ◌&&◌, ◌||◌, not, nat_lt, nat_le, if◌then◌else◌, Bool, All, Option}
 use Rattle.std.specs.Prelude.{Some, None, IfSome, Ok, is_ok, option_map}
 use Rattle.std.specs.Int.NonZero.{non_zero_u8_get}
@@ -11,6 +11,7 @@ use Rattle.v_frame.specs.declared.frame.error.FrameError.{FrameError}
 use Rattle.v_frame.specs.declared.frame.error.FrameError.TheVariants.{UnsupportedBitDepth, DataTypeMismatch}
 use Rattle.v_frame.specs.declared.frame.error.FrameError.TheVariants.{UnsupportedResolution}
 
+-- The values of a frame builder: the luma size, the format, the bit depth and the luma paddings.
 pub record FrameRequest : Type 0 where
   pub width : ℕ
   pub height : ℕ
@@ -21,28 +22,29 @@ pub record FrameRequest : Type 0 where
   pub pad_top : ℕ
   pub pad_bottom : ℕ
 
--- the geometry of the luma plane
+-- The geometry of the luma plane.
 abbrev pub luma_geometry : FrameRequest → Geometry
 luma_geometry request =
     geometry_of request.width request.height request.pad_left request.pad_right
     request.pad_top request.pad_bottom 1 1
 
--- something is visible, a row can be counted, and the buffer fits
+-- The visible rectangle is not empty, the stride fits into a `usize`, and the buffer fits.
 abbrev pub is_laid_out : Geometry → Bool
 is_laid_out g =
     nat_lt 0 g.width
     && (nat_lt 0 g.height
     && (nat_le (stride_of g) usize_max && nat_le (2 * alloc_size_of g) isize_max))
 
--- pixels of one byte have the depth 8, and pixels of two bytes another
+-- Pixels of one byte have the bit depth 8, and pixels of two bytes have another bit depth.
 abbrev pub is_mismatch : ℕ → ℕ → Bool
 is_mismatch bytes depth = (bytes == 1 && not (depth == 8)) || (bytes == 2 && depth == 8)
 
--- the geometry of the chroma planes that are asked for, where there are some
+-- The geometry of the requested chroma planes, if there are any.
 abbrev pub chroma_geometry : FrameRequest → Option Geometry
 chroma_geometry request = geometry_in (subsampled request.subsampling (luma_geometry request))
 
--- why a frame can't be built of pixels of so many bytes: the first reason decides
+-- The reason why a frame with pixels of this size in bytes cannot be built. The first reason that
+-- applies is reported.
 abbrev pub refusal_of : ℕ → FrameRequest → Option FrameError
 refusal_of bytes request =
     if nat_lt request.bit_depth 8 || nat_lt 16 request.bit_depth
@@ -53,7 +55,7 @@ refusal_of bytes request =
     else Some UnsupportedResolution))
 
 module _ {T : Type 0} where
-  -- the frame is as asked for, and each of its planes holds `zero` everywhere
+  -- The frame is as requested, and each entry of its planes is `zero`.
   pub record IsBlank (zero : T) (request : FrameRequest) (frame : Frame T) : Type 0 where
     pub y_plane : frame.y_plane ≡ filled zero (luma_geometry request)
     pub chroma : subsampled request.subsampling (luma_geometry request)
@@ -64,10 +66,11 @@ module _ {T : Type 0} where
     pub bit_depth : non_zero_u8_get frame.bit_depth ≡ request.bit_depth
 
 module _ {T : Type 0} where
+  -- The visible width and height of a plane.
   abbrev pub visible_size_of : Raster T → ℕ × ℕ
   visible_size_of plane = (plane.geometry.width, plane.geometry.height)
 
-  -- a built frame is zero everywhere, and its chroma planes have their size or are absent
+  -- A new frame is zero everywhere. Its chroma planes have the size for the format, or are absent.
   pub record IsZeroEverywhere (zero : T) (request : FrameRequest) (frame : Frame T) : Type 0 where
     pub y : All (λ pixel. pixel ≡ zero) frame.y_plane.buffer
     pub u : IfSome frame.u_plane (λ plane. All (λ pixel. pixel ≡ zero) plane.buffer)

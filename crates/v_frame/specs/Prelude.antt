@@ -1,5 +1,5 @@
--- The words and types that callers' clauses cite, re-exported from one place. A variant is written
--- after its type (`Answer.Number 3`), and needs no import there.
+-- The definitions and types that the clauses of callers use, re-exported from one place. A variant
+-- is written after its type (`Answer.Number 3`), and is not imported from here.
 pub use Rattle.v_frame_raster.specs.Pixel.{PixelForm, one_byte, two_bytes, bytes_of, byte_of, value_of_bytes}
 pub use Rattle.v_frame_raster.specs.Pixel.{bytes_of_pixels, byte_list, pixels_of_bytes}
 pub use Rattle.v_frame_raster.specs.PixelRows.{squared_error, rounded_mean, absolute_differences, squared_errors}
@@ -32,8 +32,8 @@ pub use Rattle.v_frame.specs.Build.{FrameRequest, refusal_of, IsBlank, IsZeroEve
 pub use Rattle.v_frame.specs.Walk.{draws_answer, drawn_in_turn, remaining_in_turn, front_draw, rows_written}
 pub use Rattle.v_frame.specs.Walk.{pixels_written}
 pub use Rattle.v_frame.specs.Replay.{answers_to, tables_after, reply_to, StoppedAfter}
--- what proofs by hand of callers cite of rows and pixels that are held: what the plane ends as,
--- what `next` and `next_back` lend, and what an iterator that is dropped leaves
+-- Definitions for hand-written proofs of callers that keep rows and pixels: the final state of the
+-- plane, the effects of `next` and `next_back`, and the effect of dropping an iterator.
 pub use Rattle.v_frame_plane.specs.LendsTable.{EndsWith, LendsRows, LendsTable, LendsPixelTable}
 pub use Rattle.v_frame_plane.specs.LendsTable.{HeldRowsAreTheTable}
 pub use Rattle.v_frame_raster.specs.Writes.{WritesTable}
@@ -54,7 +54,7 @@ use Rattle.v_frame.specs.declared.replay.draw.RowDraw.{RowDraw as TheRowDraw}
 use Rattle.v_frame.specs.declared.replay.draw.PixelDraw.{PixelDraw as ThePixelDraw}
 use Rattle.v_frame.specs.declared.replay.draw.Drawn.{Drawn as TheDrawn}
 
--- the types of this crate
+-- The types of this crate.
 abbrev pub Frame : Type 0 → Type 0
 Frame = TheFrame
 

@@ -1,4 +1,5 @@
--- Visible calls on plain tables of rows. Nothing here knows a padding, a border or a buffer.
+-- Calls on visible pixels, executed on plain tables of rows. There are no paddings, borders or
+-- buffers here.
 use Rattle.std.specs.Prelude.{ℕ, ◌≡◌, ◌<◌, List, [], ◌∷◌, length, take, map, Option, Some, None, slice_get, Any}
 use Rattle.v_frame_raster.specs.Table.{Table, width_of, height_of, pixel_at, row_major, with_writes, with_pixel}
 use Rattle.v_frame_plane.specs.Copy.{CopyOutcome, packed_copy, strided_copy, packed_byte_copy}
@@ -15,18 +16,18 @@ use Rattle.v_frame.specs.declared.replay.answer.Answer.TheVariants.{NoPlane, Out
 use Rattle.v_frame.specs.declared.replay.answer.Answer.TheVariants.{PixelShown, Copied, RowsWalked}
 use Rattle.v_frame.specs.declared.replay.answer.Answer.TheVariants.{PixelsWalked, BytesWalked}
 
--- what a call answers, and the table that it leaves
+-- The result of a call on one plane, and the table after the call.
 pub record TableReply (T : Type 0) : Type 0 where
   pub answer : Answer T
   pub table : Table T
 
--- what a call answers, and the tables that it leaves
+-- The result of a call on a frame, and the tables after the call.
 pub record Reply (T : Type 0) : Type 0 where
   pub answer : Answer T
   pub tables : Tables T
 
 module _ {T : Type 0} where
-  -- the plane that a call names
+  -- The index of the plane that a call names.
   abbrev pub named_plane : VisibleCall T → ℕ
   named_plane (Width plane) = plane
   named_plane (Height plane) = plane
@@ -43,7 +44,7 @@ module _ {T : Type 0} where
   named_plane (RowsMut plane draws) = plane
   named_plane (PixelsMut plane draws) = plane
 
-  -- the plane that a call may write
+  -- The index of the plane that a call may write.
   abbrev pub written_plane : VisibleCall T → Option ℕ
   written_plane (RowMut plane y writes) = Some plane
   written_plane (PixelMut plane x y value) = Some plane
@@ -54,20 +55,22 @@ module _ {T : Type 0} where
   written_plane (PixelsMut plane draws) = Some plane
   written_plane call = None
 
-  -- some call of the list may write the plane of this index
+  -- Some call of the list may write the plane with this index.
   abbrev pub WritesPlane : List (VisibleCall T) → ℕ → Type 0
   WritesPlane calls index = Any (λ call. written_plane call ≡ Some index) calls
 
+  -- The result of a call on one pixel, which may lie outside the visible rectangle.
   abbrev pub answer_of_pixel : Option T → Answer T
   answer_of_pixel None = OutsideRectangle
   answer_of_pixel (Some pixel) = PixelShown pixel
 
+  -- The result and the table of a copy.
   abbrev pub reply_of_copy : CopyOutcome T → TableReply T
   reply_of_copy copy = record { answer = Copied copy.answer; table = copy.table }
 
--- what calls answer and leave, where this is how pixels are made of bytes
+-- The results and the effects of calls, for a given byte encoding of pixels.
 module _ {T : Type 0} (form : PixelForm T) where
-  -- a call on the table of its plane
+  -- A call on the table of its plane.
   abbrev pub on_table : VisibleCall T → Table T → TableReply T
   on_table (Width plane) rows = record { answer = Number (width_of rows); table = rows }
   on_table (Height plane) rows = record { answer = Number (height_of rows); table = rows }
@@ -98,28 +101,31 @@ module _ {T : Type 0} (form : PixelForm T) where
       let drawn = draws_answer pixels (map side_of_pixel draws) in
       record { answer = PixelsWalked (length pixels) drawn; table = pixels_written rows draws }
 
-  -- a call on tables, where the plane that it names has this one or none
+  -- A call on the tables of a frame. The third argument is the table of the plane that the call
+  -- names, if there is one.
   abbrev pub on_tables : VisibleCall T → Tables T → Option (Table T) → Reply T
   on_tables call tables None = record { answer = NoPlane; tables = tables }
   on_tables call tables (Some rows) =
       let reply = on_table call rows in
       record { answer = reply.answer; tables = with_table tables (named_plane call) reply.table }
 
+  -- The result of a call on a frame, and the tables after the call.
   abbrev pub reply_to : VisibleCall T → Tables T → Reply T
   reply_to call tables = on_tables call tables (table_at tables (named_plane call))
 
-  -- the answers of a list of calls, and the tables that it leaves, call after call
+  -- The results of a list of calls that are executed in order.
   abbrev pub answers_to : List (VisibleCall T) → Tables T → List (Answer T)
   answers_to [] tables = []
   answers_to (call ∷ calls) tables =
       (reply_to call tables).answer ∷ answers_to calls (reply_to call tables).tables
 
+  -- The tables after a list of calls that are executed in order.
   abbrev pub tables_after : List (VisibleCall T) → Tables T → Tables T
   tables_after [] tables = tables
   tables_after (call ∷ calls) tables = tables_after calls (reply_to call tables).tables
 
-  -- a replay stopped before its end: the calls in front were answered, and the tables are those
-  -- that these calls leave
+  -- A replay stopped before its end. The results are those of the calls that were executed, and the
+  -- tables are those after these calls.
   pub record StoppedAfter (calls : List (VisibleCall T)) (old : Tables T)
       (done : List (Answer T)) (new : Tables T) : Type 0 where
     pub early : length done < length calls

@@ -1,4 +1,4 @@
--- Small cases worked out by hand. Each line computes: it is proved by `refl`.
+-- Small cases with the results computed by hand. Each equation is proved by computation (`refl`).
 use Rattle.std.specs.Prelude.{ℕ, ◌≡◌, List, [], ◌∷◌, Some, None, Ok, Err, refl}
 use Rattle.v_frame_raster.specs.Pixel.{byte_of, value_of_bytes, one_byte}
 use Rattle.v_frame_raster.specs.Geometry.{Geometry, geometry_of, stride_of, alloc_height_of, alloc_size_of, origin_of}
@@ -20,7 +20,7 @@ use Rattle.v_frame.specs.declared.replay.call.VisibleCall.TheVariants.{CopyFromS
 use Rattle.v_frame.specs.declared.replay.answer.Answer.TheVariants.{NoPlane, OutsideRectangle, RowShown, PixelShown}
 use Rattle.v_frame.specs.declared.replay.answer.Answer.TheVariants.{Copied}
 
--- 0x0102 has the bytes 2 and 1, low byte first
+-- The bytes of 0x0102 are 2 and 1, in little-endian order.
 low_byte : byte_of 258 0 ≡ 2
 low_byte = refl
 
@@ -30,7 +30,7 @@ high_byte = refl
 value_of_two_bytes : value_of_bytes (2 ∷ 1 ∷ []) ≡ 258
 value_of_two_bytes = refl
 
--- 4 by 3 pixels, with 2 columns of border on both sides and 1 row above and below
+-- A plane of 4 by 3 pixels, with 2 columns of border on both sides and 1 row above and below.
 abbrev four_by_three : Geometry
 four_by_three = geometry_of 4 3 2 2 1 1 1 1
 
@@ -52,7 +52,7 @@ last_place = refl
 place_past_the_buffer : place_of four_by_three 6 3 ≡ 40
 place_past_the_buffer = refl
 
--- values as options, that of the border too
+-- Values as options, including the values of the border.
 abbrev pair_in_a_border : {T : Type 0} → T → T → T → Raster T
 pair_in_a_border border left right =
     raster (geometry_of 2 1 1 0 0 0 1 1) (border ∷ left ∷ right ∷ [])
@@ -61,7 +61,8 @@ its_options : options_of {T = ℕ} (pair_in_a_border 9 5 6)
     ≡ pair_in_a_border (Some 9) (Some 5) (Some 6)
 its_options = refl
 
--- 3 by 2 pixels, with 1 column of border to the left, 2 to the right, and 1 row above
+-- A plane of 3 by 2 pixels, with 1 column of border to the left, 2 columns to the right, and 1 row
+-- above.
 abbrev three_by_two : Raster ℕ
 three_by_two = raster (geometry_of 3 2 1 2 1 0 1 1) (
     20 ∷ 21 ∷ 22 ∷ 23 ∷ 24 ∷ 25 ∷
@@ -76,7 +77,7 @@ its_border : border_of three_by_two
     ∷ []
 its_border = refl
 
--- sizes and paddings are divided where that leaves nothing over, and else refused
+-- Sizes and paddings are divided if the divisions are exact. Otherwise the geometry is rejected.
 halved_size : chroma_size_of Yuv420 1920 1080 ≡ Some (960, 540)
 halved_size = refl
 
@@ -104,7 +105,7 @@ full_size : subsampled Yuv444 (geometry_of 17 41 1 0 0 3 2 2)
     ≡ Ok (Some (geometry_of 17 41 1 0 0 3 2 2))
 full_size = refl
 
--- the reasons not to build, in their order
+-- The reasons why a frame cannot be built, in the order of the checks.
 abbrev unpadded : ℕ → ℕ → ChromaSubsampling → ℕ → FrameRequest
 unpadded width height subsampling depth =
     record {
@@ -136,7 +137,7 @@ too_wide = refl
 just_fits : refusal_of 1 (unpadded 4611686018427387903 1 Monochrome 8) ≡ None
 just_fits = refl
 
--- a list of calls on a plane of 3 by 2 zeros
+-- A list of calls on a plane of 3 by 2 zeros.
 abbrev blank : Tables ℕ
 blank = record { y = (0 ∷ 0 ∷ 0 ∷ []) ∷ (0 ∷ 0 ∷ 0 ∷ []) ∷ []; u = None; v = None }
 
@@ -153,7 +154,7 @@ six_answers = refl
 table_left : (tables_after one_byte six_calls blank).y ≡ (1 ∷ 2 ∷ 3 ∷ []) ∷ (4 ∷ 5 ∷ 6 ∷ []) ∷ []
 table_left = refl
 
--- writes that leave gaps and run past the row, and a pixel replaced, on the table that is left
+-- Writes with gaps and past the end of a row, and replaced pixels, on the table after these calls.
 abbrev two_writes : List (VisibleCall ℕ)
 two_writes =
     RowMut 0 0 (None ∷ Some 8 ∷ None ∷ Some 5 ∷ []) ∷ PixelMut 0 2 1 9 ∷ PixelMut 0 3 0 7 ∷ []

@@ -1,5 +1,5 @@
--- Small cases of bytes in and bytes out, worked out by hand. Each line computes: it is proved by
--- `refl`.
+-- Small cases of bytes that are copied in and read back, with the results computed by hand. Each
+-- equation is proved by computation (`refl`).
 use Rattle.std.specs.Prelude.{ℕ, ◌≡◌, List, [], ◌∷◌, None, Ok, Err, refl}
 use Rattle.v_frame_raster.specs.Geometry.{usize_max}
 use Rattle.v_frame_raster.specs.Table.{Table}
@@ -13,7 +13,7 @@ use Rattle.v_frame.specs.declared.replay.call.VisibleCall.TheVariants.{CopyFromU
 use Rattle.v_frame.specs.declared.replay.answer.Answer.TheVariants.{NoPlane, Copied}
 use Rattle.v_frame_plane.specs.declared.error.CopyError.TheVariants.{DataLength, InvalidStride}
 
--- pixels that are their values, of one byte and of two
+-- Pixels that are their own values, with one byte and with two bytes.
 abbrev small : Table ℕ → List ℕ → ℕ → CopyOutcome ℕ
 small = strided_copy one_byte
 
@@ -26,7 +26,7 @@ three_by_two = (0 ∷ 0 ∷ 0 ∷ []) ∷ (0 ∷ 0 ∷ 0 ∷ []) ∷ []
 abbrev two_by_two : Table ℕ
 two_by_two = (0 ∷ 0 ∷ []) ∷ (0 ∷ 0 ∷ []) ∷ []
 
--- 0x0102, 0x0304 above 0x0506, 0x0708
+-- The pixels 0x0102 and 0x0304, above 0x0506 and 0x0708.
 abbrev words : Table ℕ
 words = (258 ∷ 772 ∷ []) ∷ (1286 ∷ 1800 ∷ []) ∷ []
 
@@ -47,17 +47,17 @@ short_packed_source : packed_byte_copy two_bytes words (2 ∷ 1 ∷ 4 ∷ 3 ∷ 
     ≡ record { answer = Err (DataLength 8 4); table = words }
 short_packed_source = refl
 
--- the stride is counted in bytes, and a row of two words has four
+-- The stride is counted in bytes, and a row of two two-byte pixels has four bytes.
 stride_below_a_row : wide two_by_two (1 ∷ 2 ∷ 3 ∷ 4 ∷ 5 ∷ 6 ∷ []) 3
     ≡ record { answer = Err (InvalidStride 3 2); table = two_by_two }
 stride_below_a_row = refl
 
--- a stride that is too short is refused before a wrong length is
+-- A stride that is too small is reported before a wrong length.
 stride_before_length : wide two_by_two [] 3
     ≡ record { answer = Err (InvalidStride 3 2); table = two_by_two }
 stride_before_length = refl
 
--- two rows of three bytes, each with a tail of two
+-- Two rows of three bytes, each with a tail of two bytes.
 abbrev rows_with_tails : List ℕ
 rows_with_tails = 10 ∷ 20 ∷ 30 ∷ 99 ∷ 99 ∷ 40 ∷ 50 ∷ 60 ∷ 99 ∷ 99 ∷ []
 
@@ -72,22 +72,22 @@ last_tail_is_missing : small three_by_two (10 ∷ 20 ∷ 30 ∷ 99 ∷ 99 ∷ 40
     ≡ record { answer = Err (DataLength 10 8); table = three_by_two }
 last_tail_is_missing = refl
 
--- six bytes a row, of which two are its tail
+-- Each row has six bytes, and the last two of them are its tail.
 words_with_tails : wide two_by_two (2 ∷ 1 ∷ 4 ∷ 3 ∷ 255 ∷ 255 ∷ 6 ∷ 5 ∷ 8 ∷ 7 ∷ 255 ∷ 255 ∷ []) 6
     ≡ record { answer = Ok tt; table = words }
 words_with_tails = refl
 
--- a length that no `usize` holds
+-- A required length that does not fit into a `usize`.
 product_past_usize : small three_by_two (1 ∷ 2 ∷ 3 ∷ 4 ∷ []) usize_max
     ≡ record { answer = Err (DataLength usize_max 4); table = three_by_two }
 product_past_usize = refl
 
--- for pixels of one byte the two packed copies are one
+-- For pixels of one byte, the copies of packed pixels and of packed bytes are equal.
 packed_alike : packed_byte_copy one_byte three_by_two (1 ∷ 2 ∷ 3 ∷ 4 ∷ 5 ∷ 6 ∷ [])
     ≡ packed_copy three_by_two (1 ∷ 2 ∷ 3 ∷ 4 ∷ 5 ∷ 6 ∷ [])
 packed_alike = refl
 
--- a list of copies of bytes into 2 by 2 words
+-- A list of copies of bytes into a plane of 2 by 2 two-byte pixels.
 abbrev blank_words : Tables ℕ
 blank_words = record { y = two_by_two; u = None; v = None }
 

@@ -1,4 +1,5 @@
--- Small iterations worked out by hand. Each line computes: it is proved by `refl`.
+-- Small iterations with the results computed by hand. Each equation is proved by computation
+-- (`refl`).
 use Rattle.std.specs.Prelude.{ℕ, ◌≡◌, List, [], ◌∷◌, Option, Some, None, refl}
 use Rattle.v_frame.specs.declared.replay.draw.Side.{Side}
 use Rattle.v_frame.specs.declared.replay.draw.Side.TheVariants.{Front, Back}
@@ -16,7 +17,7 @@ use Rattle.v_frame.specs.Walk.{draws_answer, drawn_in_turn, remaining_in_turn}
 abbrev drawn : {X : Type 0} → Option X → ℕ → Drawn X
 drawn item left = record { item = item; left = left }
 
--- six items, taken past their end from both sides
+-- Six items, taken from both sides until after their end.
 abbrev six_items : List ℕ
 six_items = 1 ∷ 2 ∷ 3 ∷ 4 ∷ 5 ∷ 6 ∷ []
 
@@ -34,7 +35,7 @@ seven_by_counts = refl
 seven_in_turn : drawn_in_turn six_items seven_sides ≡ seven_answers
 seven_in_turn = refl
 
--- rows are items as any others
+-- Rows are taken like any other items.
 abbrev two_rows : List (List ℕ)
 two_rows = (1 ∷ 2 ∷ 3 ∷ []) ∷ (4 ∷ 5 ∷ 6 ∷ []) ∷ []
 
@@ -42,14 +43,14 @@ rows_from_both_ends : draws_answer two_rows (Back ∷ Front ∷ Back ∷ [])
     ≡ drawn (Some (4 ∷ 5 ∷ 6 ∷ [])) 1 ∷ drawn (Some (1 ∷ 2 ∷ 3 ∷ [])) 0 ∷ drawn None 0 ∷ []
 rows_from_both_ends = refl
 
--- a call from each end leaves what is between, and an iterator over nothing gives nothing
+-- A call from each end leaves the items between. An iterator without items yields nothing.
 left_between : remaining_in_turn six_items (Back ∷ Front ∷ []) ≡ 2 ∷ 3 ∷ 4 ∷ 5 ∷ []
 left_between = refl
 
 no_items : draws_answer {X = ℕ} [] (Front ∷ Back ∷ []) ≡ drawn None 0 ∷ drawn None 0 ∷ []
 no_items = refl
 
--- iterations in a list of calls, on a plane of 3 by 2 pixels
+-- Iterations in a list of calls, on a plane of 3 by 2 pixels.
 abbrev six_pixels : Tables ℕ
 six_pixels = record { y = two_rows; u = None; v = None }
 
@@ -60,8 +61,8 @@ walked_answers : answers_to one_byte three_walks six_pixels
     ≡ PixelsWalked 6 (drawn (Some 6) 5 ∷ drawn (Some 1) 4 ∷ []) ∷ RowsWalked 2 [] ∷ NoPlane ∷ []
 walked_answers = refl
 
--- 0x0102 and 0x0304, the first begun from the front and the second from the back, and each finished
--- from the other end
+-- The pixels 0x0102 and 0x0304. The first is begun from the front and the second from the back, and
+-- each is finished from the other end.
 abbrev two_words : Tables ℕ
 two_words = record { y = (258 ∷ 772 ∷ []) ∷ []; u = None; v = None }
 
@@ -75,7 +76,7 @@ one_byte_each : answers_to one_byte (ByteData 0 (Back ∷ Front ∷ []) ∷ []) 
     ≡ BytesWalked 6 (drawn (Some 6) 5 ∷ drawn (Some 1) 4 ∷ []) ∷ []
 one_byte_each = refl
 
--- iterations that write, on planes of one size each
+-- Iterations that write.
 abbrev row_draw : Side → List (Option ℕ) → RowDraw ℕ
 row_draw side writes = record { side = side; writes = writes }
 
@@ -85,7 +86,7 @@ pixel_draw side value = record { side = side; value = value }
 abbrev showing : List (List ℕ) → Tables ℕ
 showing rows = record { y = rows; u = None; v = None }
 
--- a pixel is taken once, and a call that takes none writes none
+-- A pixel is taken once, and a call that takes no pixel writes nothing.
 abbrev five_pixel_draws : List (VisibleCall ℕ)
 five_pixel_draws =
     PixelsMut 0 (pixel_draw Front (Some 1) ∷ pixel_draw Back (Some 2) ∷ pixel_draw Back (Some 3)
@@ -100,7 +101,7 @@ written_past_the_end : tables_after one_byte five_pixel_draws (showing ((5 ∷ 6
     ≡ showing ((1 ∷ 3 ∷ 2 ∷ []) ∷ [])
 written_past_the_end = refl
 
--- an item that was taken and not written is as before
+-- An item that was taken but not written is unchanged.
 abbrev three_pixel_draws : List (VisibleCall ℕ)
 three_pixel_draws =
     PixelsMut 0 (pixel_draw Back (Some 9) ∷ pixel_draw Front None ∷ pixel_draw Front (Some 7) ∷ [])
@@ -114,7 +115,7 @@ written_from_both_ends : tables_after one_byte three_pixel_draws six_pixels
     ≡ showing ((1 ∷ 7 ∷ 3 ∷ []) ∷ (4 ∷ 5 ∷ 9 ∷ []) ∷ [])
 written_from_both_ends = refl
 
--- the row where both ends meet is written once
+-- The row at which both ends meet is written once.
 abbrev two_row_draws : List (VisibleCall ℕ)
 two_row_draws = RowsMut 0 (row_draw Front (Some 9 ∷ []) ∷ row_draw Back (Some 7 ∷ []) ∷ []) ∷ []
 

@@ -1,4 +1,4 @@
-//! Frames: planes of one picture, and how they are built.
+//! Frames: the planes of one picture, and the builder that allocates them.
 ghost use Rattle.std.specs.Prelude.{◌≡◌, ◌<◌, ◌≤◌, ◌&&◌, Ok, Err, is_ok, None, Some, OnOk, IfOk, IfErr, IfSome, ◌⊎◌, option_map, IsOkUnless, IsTrue, MatchOption, SomeIff, option_copied};
 ghost use Rattle.std.specs.Option.{ForSome, option_copied_mut};
 ghost use Rattle.std.specs.Borrow.{sem};
@@ -18,26 +18,27 @@ use std::alloc::{AllocError, Global};
 use std::marker::Model;
 use std::num::NonZeroU8;
 
-/// The planes of one picture.
+/// The planes of one picture: luma, and two chroma planes unless the format is monochrome.
 ///
-/// The fields are public: a plane may be replaced by one of another size, and each answers by its own geometry. Ports
-/// `Frame` of `v_frame` 0.7.0.
+/// The fields are public. A plane may be replaced by one of another size, because every call on a plane uses the plane's own
+/// geometry. Ports `Frame` of `v_frame` 0.7.0.
 #[derive(Debug, PartialEq, Eq, Drop)]
 pub struct Frame<T: Pixel> {
-    /// Luma.
+    /// The luma plane.
     pub y_plane: Plane<T>,
-    /// The first chroma component, where the frame has chroma.
+    /// The first chroma plane, or `None` if the frame has no chroma.
     pub u_plane: Option<Plane<T>>,
-    /// The second chroma component, where the frame has chroma.
+    /// The second chroma plane, or `None` if the frame has no chroma.
     pub v_plane: Option<Plane<T>>,
-    /// The format.
+    /// The chroma subsampling format.
     pub subsampling: ChromaSubsampling,
-    /// Bits of a sample. No call compares pixel values with it.
+    /// The number of significant bits of a pixel. No call compares pixel values with it.
     pub bit_depth: NonZeroU8,
 }
 
 impl<T: Pixel> Frame<T> {
-    /// Returns the plane of an index: 0 is Y, 1 is U and 2 is V. `None` for an absent plane, and for any other index.
+    /// Returns the plane with the given index: 0 is Y, 1 is U and 2 is V. Returns `None` if the frame has no such plane, and
+    /// for every other index.
     ///
     /// Ports `Frame::plane` of `v_frame` 0.7.0.
     pub fn plane(&self, index: usize) -> Option<&Plane<T>>
@@ -51,13 +52,13 @@ impl<T: Pixel> Frame<T> {
         }
     }
 
-    /// The same frame in buffers of its own.
+    /// Returns a copy of the frame in newly allocated buffers, including the borders.
     ///
     /// Ports `Frame::clone` of `v_frame` 0.7.0.
     ///
     /// # Errors
     ///
-    /// [`AllocError`] where a request for memory was refused. Then no plane is handed out.
+    /// [`AllocError`] if the memory for a plane cannot be allocated. Planes that were already copied are freed.
     pub fn clone(&self, alloc: Global) -> Result<Self, AllocError>
         ensures { IfOk result (λ copy. copy ≡ self.now) }
     {
@@ -70,7 +71,8 @@ impl<T: Pixel> Frame<T> {
         })
     }
 
-    /// Returns the plane of an index, for writing. The indexes are those of [`plane`](Self::plane).
+    /// Returns the plane with the given index for writing: 0 is Y, 1 is U and 2 is V. Returns `None` if the frame has no such
+    /// plane, and for every other index.
     ///
     /// Ports `Frame::plane_mut` of `v_frame` 0.7.0.
     pub fn plane_mut(&mut self, index: usize) -> Option<&mut Plane<T>>
@@ -86,9 +88,9 @@ impl<T: Pixel> Frame<T> {
     }
 }
 
-/// What a frame should be, before it is built.
+/// A builder of frames: the luma size, the format, the bit depth and the luma padding. The setters can be chained.
 ///
-/// Ports `FrameBuilder` of `v_frame` 0.7.0. The setters are chained.
+/// Ports `FrameBuilder` of `v_frame` 0.7.0.
 #[derive(Drop)]
 pub struct FrameBuilder {
     width: usize,
@@ -122,7 +124,10 @@ impl FrameBuilder {
     ghost use Rattle.v_frame.specs.Build.{FrameRequest, luma_geometry, is_laid_out, refusal_of, chroma_geometry, IsBlank};
     ghost use Rattle.v_frame_raster.specs.Chroma.{subsampled};
 
-    /// Returns a frame of this luma size in pixels, this format and this bit depth, with no padding yet.
+    /// Returns a builder for frames of `width` by `height` luma pixels, with the given format and bit depth and without
+    /// padding.
+    ///
+    /// The values are checked by [`build`](Self::build). Ports `FrameBuilder::new` of `v_frame` 0.7.0.
     pub fn new(width: usize, height: usize, subsampling: ChromaSubsampling, bit_depth: u8) -> Self
         ensures size { (result.width ≡ width) × (result.height ≡ height) }
         ensures format { (result.subsampling ≡ subsampling) × (result.bit_depth ≡ bit_depth) }
@@ -141,7 +146,9 @@ impl FrameBuilder {
         }
     }
 
-    /// Sets the border pixels to the left of each visible luma row.
+    /// Sets the number of border pixels to the left of each visible luma row. The chroma planes are padded in proportion.
+    ///
+    /// Ports `FrameBuilder::luma_padding_left` of `v_frame` 0.7.0.
     #[must_use]
     pub fn luma_padding_left(mut self, luma_padding_left: usize) -> Self
         ensures { result ≡ record self { pad_left = luma_padding_left } }
@@ -150,7 +157,9 @@ impl FrameBuilder {
         self
     }
 
-    /// Sets the border pixels to the right of each visible luma row.
+    /// Sets the number of border pixels to the right of each visible luma row. The chroma planes are padded in proportion.
+    ///
+    /// Ports `FrameBuilder::luma_padding_right` of `v_frame` 0.7.0.
     #[must_use]
     pub fn luma_padding_right(mut self, luma_padding_right: usize) -> Self
         ensures { result ≡ record self { pad_right = luma_padding_right } }
@@ -159,7 +168,9 @@ impl FrameBuilder {
         self
     }
 
-    /// Sets the border rows above the visible luma rows.
+    /// Sets the number of border rows above the visible luma rows. The chroma planes are padded in proportion.
+    ///
+    /// Ports `FrameBuilder::luma_padding_top` of `v_frame` 0.7.0.
     #[must_use]
     pub fn luma_padding_top(mut self, luma_padding_top: usize) -> Self
         ensures { result ≡ record self { pad_top = luma_padding_top } }
@@ -168,7 +179,9 @@ impl FrameBuilder {
         self
     }
 
-    /// Sets the border rows below the visible luma rows.
+    /// Sets the number of border rows below the visible luma rows. The chroma planes are padded in proportion.
+    ///
+    /// Ports `FrameBuilder::luma_padding_bottom` of `v_frame` 0.7.0.
     #[must_use]
     pub fn luma_padding_bottom(mut self, luma_padding_bottom: usize) -> Self
         ensures { result ≡ record self { pad_bottom = luma_padding_bottom } }
@@ -177,17 +190,20 @@ impl FrameBuilder {
         self
     }
 
-    /// Builds the frame, zero in every pixel and in the border too.
+    /// Allocates the frame. All pixels are zero, including those of the borders.
     ///
     /// Ports `FrameBuilder::build` of `v_frame` 0.7.0.
     ///
     /// # Errors
     ///
-    /// The first of these that holds: [`FrameError::UnsupportedBitDepth`] where the depth is below 8 or above 16;
-    /// [`FrameError::DataTypeMismatch`] where `u8` pixels are asked for another depth than 8, or `u16` pixels for 8;
-    /// [`FrameError::UnsupportedResolution`] where the width or the height is zero, where a row or a buffer is too large,
-    /// or where a luma size or padding doesn't divide by the ratios of the format; [`FrameError::OutOfMemory`] where a
-    /// request for memory was refused. The first three are found before any such request.
+    /// The conditions are checked in this order. The first three are checked before any memory is allocated.
+    ///
+    /// - [`FrameError::UnsupportedBitDepth`] if the bit depth is below 8 or above 16.
+    /// - [`FrameError::DataTypeMismatch`] if the pixel type is `u8` and the bit depth is not 8, or if the pixel type is `u16`
+    ///   and the bit depth is 8.
+    /// - [`FrameError::UnsupportedResolution`] if the width or the height is zero, if a row or a buffer is too large, or if a
+    ///   luma size or padding is not divisible by the subsampling ratio of the format.
+    /// - [`FrameError::OutOfMemory`] if the memory for a plane cannot be allocated.
     pub fn build<T: Pixel>(self, alloc: Global) -> Result<Frame<T>, FrameError>
         ensures refused { MatchOption (refusal_of T.BYTES self)
             (IsOkUnless result FrameError.OutOfMemory) (λ e. result ≡ Err e) }
@@ -203,7 +219,7 @@ impl FrameBuilder {
         })
     }
 
-    /// Returns the bit depth and the geometries of a frame of such pixels, or the first reason to refuse it.
+    /// Returns the bit depth and the geometries of a frame of `T` pixels, or the first error that applies.
     fn checked<T: Pixel>(
         &self,
     ) -> Result<(NonZeroU8, PlaneGeometry, Option<PlaneGeometry>), FrameError>
@@ -226,7 +242,7 @@ impl FrameBuilder {
         }
     }
 
-    /// Returns the geometries of the luma plane and of the chroma planes, where all can be laid out.
+    /// Returns the geometries of the luma plane and of the chroma planes, or `None` if one of them cannot be laid out.
     fn geometries(&self) -> Option<(PlaneGeometry, Option<PlaneGeometry>)>
         ensures laid_out { let luma = luma_geometry self.now in SomeIff result
             (IsTrue (is_laid_out luma && is_ok (subsampled self.now.subsampling luma)))
@@ -249,7 +265,7 @@ impl FrameBuilder {
     }
 }
 
-/// Returns a chroma plane of zeros, where there is one.
+/// Returns a chroma plane of zeros, or `None` if `geometry` is `None`.
 fn chroma_plane<T: Pixel>(
     alloc: Global,
     geometry: Option<PlaneGeometry>,
@@ -262,7 +278,7 @@ fn chroma_plane<T: Pixel>(
         .transpose()
 }
 
-/// Returns the bit depth, where frames can have it.
+/// Returns the bit depth if it is from 8 to 16.
 fn checked_depth(found: u8) -> Result<NonZeroU8, FrameError>
     ensures ok { IfOk result (λ depth.
         (8 ≤ found) × (found ≤ 16) × (non_zero_u8_get depth ≡ found)) }
@@ -275,7 +291,7 @@ fn checked_depth(found: u8) -> Result<NonZeroU8, FrameError>
     }
 }
 
-/// Returns the clone of a plane that may be absent.
+/// Returns a copy of a plane, or `None` if `plane` is `None`.
 fn clone_chroma<T: Pixel>(
     alloc: Global,
     plane: &Option<Plane<T>>,

@@ -1,7 +1,7 @@
-//! Laws: what callers may rely on beyond a single call.
+//! Laws: facts that callers may rely on beyond a single call.
 //!
-//! Each function makes the calls that its law speaks of, and its contract is the law. A law of the definitions alone has
-//! an empty body. Our own.
+//! Each function makes the calls that its law is about, and its contract states the law. A law that is only about definitions
+//! has an empty body. Not part of `v_frame` 0.7.0.
 ghost use Rattle.std.specs.Prelude.{◌≡◌, List, Err, IfOk, OnOk, IsOkUnless, MatchOption};
 ghost use Rattle.v_frame_raster.specs.Pixel.{byte_list};
 ghost use Rattle.v_frame.specs.Build.{IsZeroEverywhere, refusal_of};
@@ -45,9 +45,10 @@ pub use writing_iterators::{
     lent_rows_hold_what_is_written,
 };
 
-/// Two frames that show the same give the same answers to every list of calls, and show the same afterwards.
+/// If two frames show the same tables, every list of calls returns equal results for both, and both show the same tables
+/// afterwards.
 ///
-/// The error is an allocation failure. Each frame keeps its own border, in either case.
+/// The error means that memory could not be allocated. Each frame keeps its own border, even after an error.
 pub fn same_tables_same_answers<T: Pixel>(
     alloc: Global,
     a: &mut Frame<T>,
@@ -68,7 +69,7 @@ pub fn same_tables_same_answers<T: Pixel>(
     Ok((first, second))
 }
 
-/// Returns a replay whose answers so far are dropped where memory is refused.
+/// Replays `calls`. If memory cannot be allocated, the results so far are dropped.
 fn replayed<T: Pixel>(
     alloc: Global,
     frame: &mut Frame<T>,
@@ -83,7 +84,7 @@ fn replayed<T: Pixel>(
     replay(alloc, frame, calls).map_err(|_| AllocError)
 }
 
-/// Returns a frame that can be built is zero everywhere, and its chroma planes have the size of the format or are absent.
+/// A frame that can be built is zero everywhere. Its chroma planes have the size that the format specifies, or are absent.
 pub fn built_frame_is_zero<T: Pixel>(
     alloc: Global,
     builder: FrameBuilder,
@@ -95,21 +96,21 @@ pub fn built_frame_is_zero<T: Pixel>(
     builder.build(alloc)
 }
 
-/// Calls of `next` and `next_back`, one after another, each give the first or the last of the items left. That is what their
-/// counts say too.
+/// In any series of `next` and `next_back` calls, each call yields the first or the last of the remaining items. A description
+/// by the number of calls so far gives the same items.
 pub fn draws_are_counted<T>()
     ensures { AreCounted T }
 {}
 
-/// Any calls of `next` and `next_back` give each item once, from its end: those from the front, those from the back, and what
-/// is left make up the items.
+/// Any series of `next` and `next_back` calls yields each item once. The items from the front, the remaining items and the
+/// items from the back, joined in this order, are all items.
 pub fn items_are_drawn_once<T>()
     ensures { (items : List T) (sides : List Side)
         → AreDrawnOnce items sides (draws_answer items sides) }
 {}
 
-/// Any calls of `next` and `next_back` give each row of a plane once, from its end. The error is an allocation failure: rows
-/// are copied.
+/// Any series of `next` and `next_back` calls on `Plane::rows` yields each row of the plane once. The rows are copied, and the
+/// error means that memory could not be allocated.
 pub fn rows_are_drawn_once<T: Pixel>(
     alloc: Global,
     plane: &Plane<T>,
@@ -122,7 +123,8 @@ pub fn rows_are_drawn_once<T: Pixel>(
     draw_items(alloc, &mut plane.rows(), sides)
 }
 
-/// Any calls of `next` and `next_back` give each pixel of a plane once, from its end. The error is an allocation failure.
+/// Any series of `next` and `next_back` calls on `Plane::pixels` yields each pixel of the plane once. The error means that
+/// memory could not be allocated.
 pub fn pixels_are_drawn_once<T: Pixel>(
     alloc: Global,
     plane: &Plane<T>,
@@ -136,7 +138,8 @@ pub fn pixels_are_drawn_once<T: Pixel>(
     draw_items(alloc, &mut plane.pixels(), sides)
 }
 
-/// Any calls of `next` and `next_back` give each byte of a plane once, from its end. The error is an allocation failure.
+/// Any series of `next` and `next_back` calls on `Plane::byte_data` yields each byte of the plane once. The error means that
+/// memory could not be allocated.
 pub fn bytes_are_drawn_once<T: Pixel>(
     alloc: Global,
     plane: &Plane<T>,

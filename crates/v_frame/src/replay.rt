@@ -1,11 +1,11 @@
-//! Replays: lists of calls on what a frame shows.
+//! Replays: lists of calls on the visible pixels of a frame.
 //!
-//! The module is our own. The contract of [`replay`](replay()) says what any list of calls answers and leaves, by plain
-//! tables of rows that know no padding and no border.
+//! Not part of `v_frame` 0.7.0. The contract of [`replay`](replay()) states the results and the effects of every list of calls
+//! by plain tables of rows, which have no padding and no border.
 //!
-//! It is built in three steps, each with the whole meaning of what it does in its own contract: a call on one plane is a call
-//! on its table; a call on a frame finds its plane and is a call on tables; a list is the induction over these. Each kind of
-//! call is in one of the files beside this one. All of them use the public calls of planes and frames alone.
+//! The contract is proved in three steps: a call on one plane is a call on its table, a call on a frame finds its plane and is
+//! then a call on the tables of the frame, and a list of calls follows by induction. Each kind of call is in one of the files
+//! in this folder. All of them use only the public calls of planes and frames.
 ghost use Rattle.std.specs.Prelude.{◌≡◌, ℕ, None, Some, IfOk, IfErr, OnOk, OnErr};
 ghost use Rattle.v_frame.specs.Frame.{tables_of, plane_at, KeepsBorders};
 ghost use Rattle.v_frame.specs.PlaneReply.{RepliesOn};
@@ -30,15 +30,15 @@ use reads::{bytes_walked, pixel_shown, pixels_walked, row_shown, rows_walked};
 use row_writes::{replay_row_mut, replay_rows_mut};
 use std::alloc::{AllocError, Global};
 
-/// Does the calls in order and gives their answers.
+/// Executes `calls` in order, and returns the result of each.
 ///
-/// A call whose plane the frame lacks is answered by [`Answer::NoPlane`] and changes nothing. An empty list of calls takes no
-/// memory. Our own.
+/// If the frame has no plane with the index that a call names, the result is [`Answer::NoPlane`] and nothing changes. An empty
+/// list of calls allocates no memory. Not part of `v_frame` 0.7.0.
 ///
 /// # Errors
 ///
-/// [`ReplayStopped`] where a request for memory was refused: the calls that it has answers of are done, and no later one
-/// has written anything.
+/// [`ReplayStopped`] if memory for a result cannot be allocated. The error holds the results of the calls that were executed.
+/// No later call has written anything.
 pub fn replay<T: Pixel>(
     alloc: Global,
     frame: &mut Frame<T>,
@@ -69,7 +69,7 @@ pub fn replay<T: Pixel>(
     Ok(done)
 }
 
-/// Does one call. Room for its answer is made before it writes.
+/// Executes one call. The memory for its result is allocated before the call writes.
 fn replay_call<T: Pixel>(
     alloc: Global,
     frame: &mut Frame<T>,
@@ -90,7 +90,7 @@ fn replay_call<T: Pixel>(
     }
 }
 
-/// Does one call on the plane that it names.
+/// Executes one call on the plane that it names.
 fn replay_on_plane<T: Pixel>(
     alloc: Global,
     plane: &mut Plane<T>,

@@ -1,4 +1,4 @@
-//! A list inside another value, as a call, an answer or a stream header.
+//! A list inside another value, for example inside a call, its result or a stream header.
 ghost use Rattle.std.specs.Prelude.{◌≡◌, ◌^◌, ◌<◌, ◌↔◌, List, [], length, IsTrue, IfOk, option_copied};
 ghost use Rattle.std.specs.Cmp.Lexicographic.{pointwise, lists_per, lists_equiv};
 ghost use Rattle.std.specs.Iterator.Runs.{EveryRun, ItemsMapTo};
@@ -11,9 +11,10 @@ use std::marker::Model;
 use std::ops::DerefSlice;
 use std::{fmt, slice};
 
-/// A list in a [`VisibleCall`](crate::replay::VisibleCall), an [`Answer`](crate::replay::Answer) or another value.
+/// A list inside a [`VisibleCall`](crate::replay::VisibleCall), an [`Answer`](crate::replay::Answer) or another value.
 ///
-/// It is a `Vec` that contracts see as its list, and it reads as a slice does. Neither conversion takes memory. Our own.
+/// A `Sequence` is a `Vec` that contracts see as a list. It can be read as a slice. The conversions from and to a `Vec`
+/// allocate no memory. Not part of `v_frame` 0.7.0.
 #[derive(Drop)]
 pub struct Sequence<T> {
     items: Vec<T>,
@@ -28,11 +29,11 @@ impl<T> Model for Sequence<T> {
 }
 
 impl<T> Sequence<T> {
-    /// Returns a sequence of these items.
+    /// Returns a sequence with copies of `items`.
     ///
     /// # Errors
     ///
-    /// [`AllocError`] where the request for their memory was refused.
+    /// [`AllocError`] if the memory for the copies cannot be allocated.
     pub fn from_slice(alloc: Global, items: &[T]) -> Result<Self, AllocError>
     where
         T: Copy,
@@ -41,7 +42,7 @@ impl<T> Sequence<T> {
         Ok(Vec::from_slice(alloc, items)?.into())
     }
 
-    /// Returns a sequence of these items, where there are some.
+    /// Returns a sequence with copies of `items`, or `None` if `items` is `None`.
     pub(crate) fn from_option(
         alloc: Global,
         items: Option<&[T]>,
@@ -56,21 +57,21 @@ impl<T> Sequence<T> {
         }
     }
 
-    /// Returns how many items there are.
+    /// Returns the number of items.
     pub fn len(&self) -> usize
         ensures { result ≡ length self.now }
     {
         self.items.len()
     }
 
-    /// Returns whether there is no item.
+    /// Returns whether the sequence has no items.
     pub fn is_empty(&self) -> bool
         ensures { IsTrue result ↔ (self.now ≡ []) }
     {
         self.items.is_empty()
     }
 
-    /// Returns the items, one after the other.
+    /// Returns an iterator over the items.
     pub fn iter(&self) -> slice::Iter<'_, T>
         ensures items { iter_rest result ≡ self.now }
         ensures bound { length (iter_rest result) < 2 ^ 64 }
@@ -80,14 +81,14 @@ impl<T> Sequence<T> {
         self.items.iter()
     }
 
-    /// Returns the items.
+    /// Returns the items as a slice.
     pub fn as_slice(&self) -> &[T]
         ensures { result.now ≡ self.now }
     {
         self.items.as_slice()
     }
 
-    /// Returns the `Vec` that it was made from.
+    /// Returns the `Vec` that the sequence was made from.
     pub fn into_vec(self) -> Vec<T>
         ensures { result.items ≡ self }
     {

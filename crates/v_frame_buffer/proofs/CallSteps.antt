@@ -1,10 +1,10 @@
--- Steps of a proof by hand at a function's entry, at a call and at the return. The tokens of the lifetimes and what the
--- parameters own stand in the context as
--- entries of their own, in the signature's order, and a list of positions says where a step finds them. Assumes
--- `Logic`.
--- opened      the entry of the function        calls, calls_last     a call, and what it gives: the result, what is
--- said, the tokens, the last values
---     ends        the return        says, reported     a clause that is a fact, and one that is the last
+-- Steps of a hand-written proof at the entry of a function, at a call and at the return. The tokens of the lifetimes
+-- and the resources of the parameters are separate entries of the context, in the order of the signature. A list of
+-- positions tells a step where to find them. Assumes `Logic`.
+-- - opened: the entry of the function.
+-- - calls, calls_last: a call and its outcome: the result, the clauses, the tokens, and the final values.
+-- - ends: the return.
+-- - says, reported: a clause that is a fact, and a clause that is the last one.
 use Rattle.v_frame_buffer.proofs.Steps.{ℕ, ◌≡◌, List, [], ◌∷◌, ◌++◌, refl, sym, ap, flft, SProp, emp, ent, sep, id⊢}
 use Rattle.v_frame_buffer.proofs.Steps.{fact, fact_i, RattleType, Valss, Clauses, Lasts, at_exit, lasts, triple_of}
 use Rattle.v_frame_buffer.proofs.Steps.{Stays, walk_of, Args, Val, Ura, Goal, Item, Seq, Soaks, Step, step, ‵, raw, ◌⊛◌}
@@ -21,7 +21,7 @@ use contract.Monad.{Fun}
 use denote.Triple.Entry.{Vals}
 use mir.Syntax.{Body}
 
--- positions in a list, each as it is once those before it are taken out
+-- Positions in a list. Each is valid after the entries before it are taken out.
 abbrev pub places : List ℕ → List ℕ → List ℕ
 places seen [] = []
 places seen (i ∷ π) = (i - count_by (λ j. nat_lt j i) seen) ∷ places (i ∷ seen) π
@@ -48,7 +48,7 @@ module _ {M : Type 1} {𝓤 : Ura M} where
     still_had (s ∷ ss) ks hs a ws vss Γ = ‵ (hs.0.has κs a.0 ws.0 vss.0) ∷ still_had ss ks.1 hs.1 a.1 ws.1 vss.1 Γ
 
 module _ {M : Type 1} {𝓤 : Ura M} (𝓛 : Logic 𝓤) where
-  -- P is the entries with which Δ begins, and Γ the rest of Δ
+  -- P consists of the first entries of Δ, and Γ is the rest of Δ.
   record Begins (P : SProp 𝓤) (Δ Γ : List (Item 𝓤)) : Type 1 where
     apart : ent 𝓤 (sep 𝓤 P (⋆ 𝓛 Γ)) (⋆ 𝓛 Δ)
     joined : ent 𝓤 (⋆ 𝓛 Δ) (sep 𝓤 P (⋆ 𝓛 Γ))
@@ -105,7 +105,7 @@ module _ {M : Type 1} {𝓤 : Ura M} (𝓛 : Logic 𝓤) where
     opened_by Φ φ {P} shows s = let E = on_entry 𝓛 S κs qs a vss in fact_use 𝓤 φ (via 𝓤 Φ (snd∗ 𝓤 E Φ) shows) (λ holds.
         via 𝓤 (sep 𝓤 E (emp 𝓤)) (mono_r 𝓤 E (top 𝓤 Φ)) (via 𝓤 (⋆ 𝓛 (Entered [])) (entry_is []).apart (s holds).prf))
 
-    -- where the `requires` is one fact
+    -- For a `requires` that is one fact.
     pub opened : (φ : Type 0) {P : SProp 𝓤} → (φ → Seq (Go {0}) 𝓛 (Entered []) (prop P)) → ent 𝓤
         (sep 𝓤 (on_entry 𝓛 S κs qs a vss) (sep 𝓤 (fact 𝓤 φ) (emp 𝓤))) P
     opened φ = opened_by (sep 𝓤 (fact 𝓤 φ) (emp 𝓤)) φ (fst∗ 𝓤 (fact 𝓤 φ) (emp 𝓤))
@@ -113,7 +113,7 @@ module _ {M : Type 1} {𝓤 : Ura M} (𝓛 : Logic 𝓤) where
   found : (Γ : List (Item 𝓤)) (π : List ℕ) (Θ : List (Item 𝓤)) → sel 𝓛 (places [] π) Γ ≡ Θ → ent 𝓤 (⋆ 𝓛 Γ) (⋆ 𝓛 Θ)
   found Γ π Θ at = subst (λ (Δ : List (Item 𝓤)). ent 𝓤 (⋆ 𝓛 Γ) (⋆ 𝓛 Δ)) at (sel⊢ 𝓛 (places [] π) Γ)
 
-  -- what a call asks and what it gives, where `says` are the entries that its clauses are
+  -- The precondition and the outcome of a call, whose clauses are the entries `says`.
   module _ (T : Ended) (c : Clauses 𝓤 T) (x : (triple_of 𝓛 T.signature (closing 𝓛 T c)).Ghost) where
     abbrev S : Signature
     S = T.signature
@@ -156,7 +156,7 @@ module _ {M : Type 1} {𝓤 : Ura M} (𝓛 : Logic 𝓤) where
           some (λ (ws : Lasts T κs a). ‵ (lasts T κs a ws) ⊛ raw (Says r ws))))) (id⊢ 𝓤 _) $
           await t z $ pick t (λ r. split t $ split t $ move t (2 ∷ []) $ pick t
           (λ ws. split t $ move t (2 ∷ 0 ∷ []) $ join t $ move t (2 ∷ 1 ∷ 0 ∷ []) $
-          -- [what is given; what is said; the tokens, and the last values]
+          -- Context: [the result; the clauses; the tokens, and the last values]
           let rest = last_values κs S.params T.kept a ws Γ in let after = tokens S.lifetimes κs x.0.1 rest in
           let entries = via 𝓤 _ (pop 𝓛 _ Γ) (both (tokens_are S.lifetimes κs x.0.1 rest)
           (last_values_are κs S.params T.kept a ws Γ)).apart in
@@ -165,7 +165,7 @@ module _ {M : Type 1} {𝓤 : Ura M} (𝓛 : Logic 𝓤) where
           let Own : Item 𝓤 = ‵ ((type_at S.result κs).own_val r (v ∷ [])) in
           by t (via 𝓤 _ (mono_r 𝓤 (mean 𝓛 Own) said) (via 𝓤 _ (push 𝓛 Own (says r ws ++ after)) (k r ws).prf))))
 
-  -- such a call of `run`, from what stands at π, after which the goal is `after`
+  -- A call of `run` whose operands are at π. The goal after the call is `after`.
   abbrev Called : (T : Ended) (c : Clauses 𝓤 T) (K : Type 0) (π : List ℕ) (Γ Δ : List (Item 𝓤)) (E : Env 𝓤 𝓛.H)
       (run : Fun 𝓤) (xs : List Operand)
       (after : Val → Goal 𝓤 𝓛.H) (G : Goal 𝓤 𝓛.H) → Type 2
@@ -211,7 +211,7 @@ module _ {M : Type 1} {𝓤 : Ura M} {𝓛 : Logic 𝓤} {K : Type 0} {Γ Δ : L
       let kept = via 𝓤 _ (tokens_are 𝓛 S.lifetimes κs y.0.1 rest).joined (mono_r 𝓤 (toks 𝓛 S.lifetimes κs y.0.1) had) in
       record { prf = via 𝓤 (⋆ 𝓛 all) (found 𝓛 Γ π all at) (via 𝓤 _ kept (leaves 𝓛 T hs c y v r ws fits)) })
 
--- clauses that are facts
+-- Clauses that are facts.
 module _ {M : Type 1} {𝓤 : Ura M} {𝓛 : Logic 𝓤} {K : Type 0} {Γ : List (Item 𝓤)} where
   pub tells : K → {φ : Type 0} {P : SProp 𝓤} → φ → Step K 𝓛 Γ (prop P) Γ (prop (sep 𝓤 (fact 𝓤 φ) P))
   tells t {φ} {P} holds = step (λ s. record {
@@ -222,7 +222,7 @@ module _ {M : Type 1} {𝓤 : Ura M} {𝓛 : Logic 𝓤} {K : Type 0} {Γ : List
   pub told : K → {φ : Type 0} → φ → Seq K 𝓛 Γ (prop (fact 𝓤 φ))
   told t {φ} holds = record { prf = fact_i 𝓤 φ (⋆ 𝓛 Γ) holds }
 
--- a `requires` that is a fact and more, one fact and no more, and two facts
+-- A `requires` that is a fact and more, one that is a single fact, and one that is two facts.
 module _ {M : Type 1} (𝓤 : Ura M) {φ : Type 0} where
   pub asks_also : {P : SProp 𝓤} → φ → ent 𝓤 (emp 𝓤) P → ent 𝓤 (emp 𝓤) (sep 𝓤 (fact 𝓤 φ) P)
   asks_also {P} holds more = via 𝓤 P more (via 𝓤 (sep 𝓤 (emp 𝓤) P) (emp∗ 𝓤 P) (mono_l 𝓤 P (fact_i 𝓤 φ (emp 𝓤) holds)))
@@ -233,16 +233,16 @@ module _ {M : Type 1} (𝓤 : Ura M) {φ : Type 0} where
   pub asks_both : {ψ : Type 0} → φ → ψ → ent 𝓤 (emp 𝓤) (sep 𝓤 (fact 𝓤 φ) (fact 𝓤 ψ))
   asks_both {ψ} x y = asks_also x (fact_i 𝓤 ψ (emp 𝓤) y)
 
--- and two facts are one
+-- Two facts are one fact.
 pub both_facts : {M : Type 1} (𝓤 : Ura M) (φ ψ : Type 0) → ent 𝓤 (sep 𝓤 (fact 𝓤 φ) (fact 𝓤 ψ)) (fact 𝓤 (φ × ψ))
 both_facts 𝓤 φ ψ = fact_use 𝓤 φ (fst∗ 𝓤 (fact 𝓤 φ) (fact 𝓤 ψ))
     (λ x. fact_use 𝓤 ψ (snd∗ 𝓤 (fact 𝓤 φ) (fact 𝓤 ψ)) (λ y. fact_i 𝓤 (φ × ψ) _ (x, y)))
 
--- what a function without a result returns
+-- The return value of a function without a result.
 pub unit_fits : {v : Val} → v ∷ [] ≡ vunit ∷ [] → T (has_ty ty_unit v) × WT v
 unit_fits is = subst (λ (x : Val). T (has_ty ty_unit x) × WT x) (sym (ap only is)) (tt, tt)
 
--- a `&` can be given away and kept
+-- A `&` can be given away and kept.
 module _ {M : Type 1} {𝓤 : Ura M} {𝓛 : Logic 𝓤} {K : Type 0} {Γ : List (Item 𝓤)} {G : Goal 𝓤 𝓛.H} where
   pub read_twice : K → (ℓ : Lifetime) (κ : Lft) (R : RattleType) → RowLaws R → (x : Bor R.Denot)
       → let Own : Item 𝓤 = ‵ ((ShrRef ℓ κ R).own_val x (shr_vals x)) in Step K 𝓛 (Own ∷ Own ∷ Γ) G (Own ∷ Γ) G
@@ -250,7 +250,7 @@ module _ {M : Type 1} {𝓤 : Ura M} {𝓛 : Logic 𝓤} {K : Type 0} {Γ : List
       feq_i t (List Val) (shr_vals x) (shr_vals x) refl $ fjoin t $ move t (1 ∷ []) $ feq_i t (List Val) (shr_vals x)
       (shr_vals x) refl $ fjoin t $ k)
 
-  -- a value whose machine value its type says, written out
+  -- A value whose type determines its machine value, written out.
   pub spelt : K → (R : RattleType) (lowered : R.Denot → Val) →
       ((x : R.Denot) (vs : List Val) → Is R x vs → vs ≡ lowered x ∷ []) → (x : R.Denot) (v : Val)
       → (v ≡ lowered x → Is R x (lowered x ∷ []) → Seq K 𝓛 (‵ (R.own_val x (lowered x ∷ [])) ∷ Γ) G) → Seq K 𝓛

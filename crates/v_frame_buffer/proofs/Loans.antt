@@ -1,11 +1,11 @@
--- For a proof by hand of a function that makes calls within a lifetime of its own. Each step is one of the logic's
--- calculus, and acts on the head of the context. Assumes `Logic`.
--- lft_within      of the token of κ a lifetime α ∷ κ is made, which lies within κ.        lft_over     it is over, and
--- the token of κ is there again
--- lends           the value at a place is lent for such a lifetime.        comes_back     that is over, and the value
--- is there again, as it was left
--- opens_self      a `&mut` to self is opened.        at_one          what is given for each h where A h is held, at one
--- h
+-- Steps for a hand-written proof of a function that makes calls within a new lifetime. Each step is one of the
+-- logic's calculus, and acts on the head of the context. Assumes `Logic`.
+-- - lft_within: the token of κ becomes the token of a new lifetime α ∷ κ, which lies within κ.
+-- - lft_over: the new lifetime is over, and the token of κ is back.
+-- - lends: the value at a place is lent for such a lifetime.
+-- - comes_back: the loan is over, and the value is back with its changes.
+-- - opens_self: a `&mut` to self is opened.
+-- - at_one: a statement about each h with A h, used for one h.
 use Rattle.v_frame_buffer.proofs.Steps.{ℕ, ◌≡◌, List, [], ◌∷◌, refl, Lft, Share, fat, fauth, flent, flft, fobor, fobs}
 use Rattle.v_frame_buffer.proofs.Steps.{full_share, SProp, all, all_e, ent, sep, wand, apply∗, shows, cell_at, mem}
 use Rattle.v_frame_buffer.proofs.Steps.{RattleType, MutBor, MutRef, mut_vals, opens, peeks, Ty, named, Val, vptr, Ura}
@@ -17,11 +17,11 @@ use base.FractionLaws.{common}
 use denote.Lowered.{Lowered}
 use mir.Raw.{raw as raw_ty}
 
--- the share that there is of the token of α ∷ κ, for the share q of that of κ
+-- The share of the token of α ∷ κ, for the share q of the token of κ.
 abbrev pub share_within : Share → Share
 share_within q = (common full_share q).0
 
--- the way back from the token of α ∷ κ to that of κ
+-- The way back from the token of α ∷ κ to the token of κ.
 abbrev pub Back : {M : Type 1} {𝓤 : Ura M} (𝓛 : Logic 𝓤) → ℕ → Lft → Share → SProp 𝓤
 Back {𝓤 = 𝓤} 𝓛 α κ q = wand 𝓤 (𝓛.A.lft (α ∷ κ) (share_within q)) (sep 𝓤 (𝓛.A.lft (α ∷ []) full_share) (𝓛.A.lft κ q))
 
@@ -41,7 +41,7 @@ module _ {M : Type 1} {𝓤 : Ura M} {𝓛 : Logic 𝓤} {K : Type 0} {Γ : List
       use1 𝓛 (‵ (fdead (α ∷ κ))) (𝓛.lfts.dead-incl (α ∷ κ) (α ∷ []) (meet_⊑_left (α ∷ []) κ)) $ s)
 
 module _ {M : Type 1} {𝓤 : Ura M} {𝓛 : Logic 𝓤} {K : Type 0} {Γ : List (Item 𝓤)} {G : Goal 𝓤 𝓛.H} where
-  -- τ is the type of the cell, as the machine has it
+  -- The type of the cell in the machine is τ.
   module _ (t : K) (z : Soaks G) (R : RattleType) (one : R.mir ≡ lone R.mir ∷ []) (τ : Ty)
       (is : raw_ty τ ≡ raw_ty (lone R.mir)) where
     pub lends : (κ : Lft) (q : Share) (x : R.Denot) (b o : ℕ) (v : Val)
@@ -71,7 +71,7 @@ module _ {M : Type 1} {𝓤 : Ura M} {𝓛 : Logic 𝓤} {K : Type 0} {Γ : List
         move t (1 ∷ []) $ rewrite t 0 (λ (w : Val). ‵ (fat full_share τ b o w)) (spelled u its) refl $ k)))
 
 module _ {M : Type 1} {𝓤 : Ura M} {𝓛 : Logic 𝓤} {K : Type 0} {Γ : List (Item 𝓤)} {G : Goal 𝓤 𝓛.H} where
-  -- a `&mut` is opened: its cell, what it owns, and the open borrow, in three
+  -- A `&mut` is opened into its cell, its resources, and the open borrow, in three parts.
   pub opens_self : K → Soaks G → (R : RattleType) (κ : Lft) (q : Share) (self : MutBor R.Denot) (low : Lowered R) → let
       b = self.ref_ptr.0 in
       let o = self.ref_ptr.1 in let code = R.coded.code self.now in let vs = low.lowered self.now ∷ [] in

@@ -1,4 +1,4 @@
--- A list keeps its length where a part of it is written.
+-- A list keeps its length when a part of it is overwritten.
 use Rattle.std.proofs.Common.{ℕ, ◌≡◌, ◌-◌, ◌++◌, List, length, take, drop, slice_range, refl, sym, ◌∙◌, ap, arith}
 use Rattle.std.proofs.lemmas.List.{length-append, length-drop, take_all, take-append-le}
 use Rattle.std.specs.List.{refill, length_refill}
@@ -11,7 +11,7 @@ module _ {T : Type 0} where
   pub length-with_part : (xs : List T) (start : ℕ) (ys : List T) → length (with_part xs start ys) ≡ length xs
   length-with_part xs start ys = length-refilled xs (take start xs ++ (ys ++ drop (length ys) (drop start xs)))
 
-  -- a part from the first place on
+  -- A part that begins with the first entry.
   pub front_part : (xs ys : List T) → with_part xs 0 ys ≡ refill (length xs) xs ys
   front_part xs ys =
       let behind = drop (length ys) xs in

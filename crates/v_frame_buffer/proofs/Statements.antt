@@ -1,4 +1,4 @@
--- Compiled code, as a proof by hand writes it: statements and what they act on.
+-- Compiled code in the form that a hand-written proof uses: statements and their operands.
 use Rattle.v_frame_buffer.proofs.Steps.{ℕ, List, [], ◌∷◌, Ty, Callee, Local, Opd as Operand, assign, call, copy, local}
 use Rattle.v_frame_buffer.proofs.Steps.{place, seq, value_local}
 use mir.Syntax.{Body as Code, Rv}

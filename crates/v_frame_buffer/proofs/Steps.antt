@@ -1,5 +1,5 @@
--- The names of the logic that proofs by hand cite, here and in the crates above, re-exported from one place. Declares
--- nothing.
+-- The names of the logic that hand-written proofs cite, here and in the crates above, re-exported from one place.
+-- Declares nothing.
 pub use Prim.Native.Nat.{suc}
 pub use Rattle.core.proofs.alloc.Calls.{Al, Answer-typed, Answered, Gives, Gives-Gives, Gives-goes, Goes-blank, Takes}
 pub use Rattle.core.proofs.alloc.Calls.{Takes-gives, Takes-goes, answers, at_gives, at_takes, token}

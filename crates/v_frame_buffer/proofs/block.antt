@@ -1,4 +1,4 @@
--- The block of memory that a buffer is kept in.
+-- The block of memory in which a buffer is stored.
 pub mod BlockCrosses
 pub mod BlockEntries
 pub mod BlockKept

@@ -14,7 +14,7 @@ use std::alloc::{AllocError, Global};
 use std::fmt;
 use std::marker::Model;
 
-/// The entries of a buffer. Only this module knows how they are kept. It takes the place of `AlignedData` of `v_frame` 0.7.0.
+/// The entries of a buffer. Only this module knows how they are stored. It replaces `AlignedData` of `v_frame` 0.7.0.
 pub struct AlignedData<T> {
     base: Base<T>,
     len: usize,
@@ -34,7 +34,7 @@ impl<T> Model for AlignedData<T> {
     ghost invariant = { λ d. IsBlock d.base d.cells d.deed d.alloc d.len d.len };
 }
 
-/// Drops every entry, and gives the memory back.
+/// Drops every entry and frees the memory.
 impl<T: Drop> Drop for AlignedData<T> {
     fn drop(self) {
         let AlignedData {
@@ -49,7 +49,7 @@ impl<T: Drop> Drop for AlignedData<T> {
 }
 
 impl<T> AlignedData<T> {
-    /// `len` copies of `value`. With `len` 0 it takes no memory.
+    /// Returns `len` copies of `value`. If `len` is 0, no memory is allocated.
     pub fn new(alloc: Global, value: T, len: usize) -> Result<Self, AllocError>
     where
         T: Copy,
@@ -63,7 +63,7 @@ impl<T> AlignedData<T> {
         Ok(filling.finish())
     }
 
-    /// The same entries in a buffer of their own. An empty buffer takes no memory.
+    /// Returns a copy of the entries in a newly allocated buffer. A copy of an empty buffer allocates no memory.
     pub fn clone(&self, alloc: Global) -> Result<Self, AllocError>
     where
         T: Copy,
@@ -84,7 +84,7 @@ impl<T> AlignedData<T> {
         self.cells.slice(self.base, self.len)
     }
 
-    /// Returns the entries, for writing.
+    /// Returns the entries for writing.
     pub fn as_mut_slice(&mut self) -> &mut [T]
         ensures* writes_back { sem 𝓛 (LendsEntries T.row self.entry result) }
         ensures value { result.now ≡ self.old }
@@ -92,7 +92,7 @@ impl<T> AlignedData<T> {
         self.cells.slice_mut(self.base, 0, self.len)
     }
 
-    /// Returns the entries from `start` up to `end`, for writing.
+    /// Returns the entries from index `start` up to, but excluding, index `end` for writing.
     pub fn part_mut(&mut self, start: usize, end: usize) -> &mut [T]
         requires order { start ≤ end }
         requires within { end ≤ length self.old }
@@ -102,7 +102,7 @@ impl<T> AlignedData<T> {
         self.cells.slice_mut(self.base, start, end)
     }
 
-    /// Returns the entry at index `place`, for writing.
+    /// Returns the entry at index `place` for writing.
     pub fn entry_mut(&mut self, place: usize) -> &mut T
         requires { place < length self.old }
         ensures* writes_back { sem 𝓛 (LendsEntry T.row self.entry place result) }
@@ -111,7 +111,7 @@ impl<T> AlignedData<T> {
         entry_of(self.as_mut_slice(), place)
     }
 
-    /// Returns the entry `offset` places after index `start`, for writing. Returns `None` if the buffer ends before that entry.
+    /// Returns the entry at index `start + offset` for writing, or `None` if this index is past the end of the buffer.
     ///
     /// `start` must be at most the length of the buffer.
     pub fn get_mut_after(&mut self, start: usize, offset: usize) -> Option<&mut T>
@@ -126,7 +126,7 @@ impl<T> AlignedData<T> {
     }
 }
 
-/// Returns the entry of a slice at index `place`, for writing.
+/// Returns the entry of a slice at index `place` for writing.
 fn entry_of<T>(entries: &mut [T], place: usize) -> &mut T
     requires { place < length entries.old }
     ensures* writes_back { sem 𝓛 (LendsEntryOf T.row entries.entry place result) }
@@ -136,7 +136,7 @@ fn entry_of<T>(entries: &mut [T], place: usize) -> &mut T
 }
 
 impl<T> AlignedData<Option<T>> {
-    /// `len` entries without a value. With `len` 0 it takes no memory.
+    /// Returns `len` entries without a value. If `len` is 0, no memory is allocated.
     pub fn without_values(alloc: Global, len: usize) -> Result<Self, AllocError>
         ensures entries { IfOk result (λ d. d ≡ replicate len None) }
         ensures no_entries { len ≡ 0 → IsOk result }
@@ -148,8 +148,8 @@ impl<T> AlignedData<Option<T>> {
         Ok(filling.finish())
     }
 
-    /// Returns the values, moved in their order to a buffer of their own. Where there is no memory for it, nothing is moved.
-    /// An empty buffer takes no memory.
+    /// Moves the values, in order, into a newly allocated buffer. If the memory cannot be allocated, nothing is moved and the
+    /// unchanged buffer is returned. An empty buffer allocates no memory.
     pub fn into_values(mut self, alloc: Global) -> Result<AlignedData<T>, Self>
     where
         T: Drop,
@@ -165,7 +165,7 @@ impl<T> AlignedData<Option<T>> {
     }
 }
 
-/// Moves the values of these entries, in their order, to a block that has room for them.
+/// Moves the values of `entries`, in order, into `values`. There must be exactly enough unwritten entries.
 fn move_values<T: Drop>(entries: &mut [Option<T>], mut values: Filling<T>) -> AlignedData<T>
     requires full { All IsSome entries.old }
     requires none_moved { values.items ≡ [] }
@@ -194,10 +194,10 @@ impl<T: Eq> Eq for AlignedData<T> {
     ghost laws = { lists_equiv T.Eq.laws };
 }
 
-/// How many entries the debug text of a buffer shows.
+/// The number of entries that the debug output of a buffer shows.
 const SHOWN_ENTRIES: usize = 5;
 
-/// The first entries, and two dots where there are more.
+/// Prints the first entries, and two dots if there are more.
 impl<T: fmt::Debug> fmt::Debug for AlignedData<T> {
     fn fmt<W: fmt::Write>(&self, f: &mut fmt::Formatter<W>) -> fmt::Result {
         let entries = self.as_slice();

@@ -1,10 +1,12 @@
-//! The buffer: a list of fixed length, made, read, cloned, compared, and lent for writing whole, in part or at one entry.
+//! The buffer of a plane: a list of fixed length that is allocated, read, cloned, compared, and lent for writing in whole, in
+//! part or at one entry.
 //!
-//! Users name `v_frame` and not this crate: `v_frame` shows the buffer of a plane as a slice, and re-exports nothing of here.
+//! Users import from `v_frame` and not from this crate. `v_frame` exposes the buffer of a plane as a slice, and re-exports
+//! nothing from here.
 //!
-//! How the buffer is kept is known here alone: in a block of raw memory, behind the five functions with pointers of
-//! `aligned::block`. What proofs by hand cite of the logic, in the crates above too, is in `proofs/Steps.antt` and
-//! `proofs/CallSteps.antt`.
+//! Only this crate knows how a buffer is stored: in a block of raw memory, which only the five functions of `aligned::block`
+//! access through pointers. `proofs/Steps.antt` and `proofs/CallSteps.antt` have the steps of the logic that hand-written
+//! proofs cite, also in the crates above.
 #![tactic(auto)]
 
 mod aligned;

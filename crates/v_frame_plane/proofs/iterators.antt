@@ -1,4 +1,4 @@
--- Iterators that read, as the lists that they have left.
+-- Iterators that read, seen as lists of the remaining items.
 pub mod BegunPixels
 pub mod BegunRows
 pub mod Cursors

@@ -1,4 +1,4 @@
--- What lends rows and pixels for writing, and the steps of the proofs by hand of it.
+-- Functions that lend rows and pixels for writing, and the steps of their hand-written proofs.
 pub mod Cuts
 pub mod Dropped
 pub mod EndsTable

@@ -1,4 +1,4 @@
--- Rows that are written into the buffer of a plane: it stays whole, and what the table is then.
+-- Rows that are written into the buffer of a plane: the buffer stays whole, and the table has the new rows.
 pub mod Kept
 pub mod RowPairs
 pub mod RowWrites

@@ -1,4 +1,5 @@
--- What iterators that lend rows and pixels leave when they are dropped: what they show.
+-- Iterators that lend rows or pixels for writing may be dropped early. The remaining items then
+-- keep their current values.
 use Rattle.std.specs.Prelude.{List}
 use Rattle.std.specs.Borrow.{Fml, RattleType}
 use base.Fml.{fall, fsep, fwand}
@@ -15,8 +16,8 @@ use Rattle.v_frame_plane.specs.declared.pixels_mut.PixelsMut.{PixelsMut}
 use Rattle.v_frame_plane.specs.declared.rows_mut.RowsMut.{RowsMut}
 
 module _ (T : RattleType) where
-  -- whoever owns an iterator, of whatever lifetime, may drop it: the rows that are left hold then,
-  -- when the borrow ends, what they show
+  -- An iterator of any lifetime may be dropped by its owner. When the borrow ends, its remaining
+  -- rows hold their current pixels.
   abbrev pub DroppedRowsKeepTheirPixels : Fml
   DroppedRowsKeepTheirPixels =
       fall NamedLft (λ lifetime.
@@ -24,7 +25,8 @@ module _ (T : RattleType) where
       fall (List Val) (λ values.
       fwand ((rows_row lifetime T).own_val walk values) (FinalRows T walk (rows_left walk)))))
 
-  -- the same of pixels
+  -- An iterator of any lifetime may be dropped by its owner. When the borrow ends, its remaining
+  -- pixels hold their current values.
   abbrev pub DroppedPixelsKeepTheirValues : Fml
   DroppedPixelsKeepTheirValues =
       fall NamedLft (λ lifetime.
@@ -33,6 +35,6 @@ module _ (T : RattleType) where
       fwand ((pixels_row lifetime T).own_val walk values)
       (FinalPixels T walk (pixels_left walk)))))
 
-  -- what an iterator over rows means
+  -- The meaning of an iterator that lends rows for writing.
   abbrev pub RowsAreHeld : Fml
   RowsAreHeld = fsep DroppedRowsKeepTheirPixels (HeldRowsAreTheTable T)

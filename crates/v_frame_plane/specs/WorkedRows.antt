@@ -1,4 +1,5 @@
--- Final values of rows worked out by hand. Each line computes: it is proved by `refl`.
+-- Final values of rows with the results computed by hand. Each equation is proved by computation
+-- (`refl`).
 use Rattle.std.specs.Prelude.{ℕ, ◌≡◌, List, [], ◌∷◌, Some, None, refl}
 use Rattle.std.specs.Borrow.{MutBor}
 use Rattle.v_frame_raster.specs.Geometry.{geometry_of, stride_of, origin_of}
@@ -7,7 +8,7 @@ use Rattle.v_frame_raster.specs.Raster.{Raster, raster, table_of, border_of}
 use Rattle.v_frame_plane.specs.FinalRows.{with_rows_ahead}
 use Rattle.v_frame_plane.specs.HeldItems.{at_front, at_back, final_items}
 
--- three rows of two entries, one entry in front of the first, and two between each and the next
+-- Three rows of two entries, with one entry before the first row and two entries between rows.
 abbrev twelve : List ℕ
 twelve = 20 ∷ 1 ∷ 2 ∷ 21 ∷ 22 ∷ 3 ∷ 4 ∷ 23 ∷ 24 ∷ 5 ∷ 6 ∷ 25 ∷ []
 
@@ -21,7 +22,8 @@ each_in_its_place = refl
 as_they_are : with_rows_ahead 1 2 2 3 twelve (rows_ahead 1 2 2 3 twelve) ≡ twelve
 as_they_are = refl
 
--- where the rows end early the others stay, and rows past those that are ahead are put nowhere
+-- If there are fewer new rows, the other entries are unchanged. New rows beyond the rows ahead are
+-- ignored.
 one_of_three : with_rows_ahead 1 2 2 3 twelve ((7 ∷ 8 ∷ []) ∷ [])
     ≡ 20 ∷ 7 ∷ 8 ∷ 21 ∷ 22 ∷ 3 ∷ 4 ∷ 23 ∷ 24 ∷ 5 ∷ 6 ∷ 25 ∷ []
 one_of_three = refl
@@ -30,7 +32,8 @@ three_for_one : with_rows_ahead 1 2 2 1 twelve three_rows
     ≡ 20 ∷ 7 ∷ 8 ∷ 21 ∷ 22 ∷ 3 ∷ 4 ∷ 23 ∷ 24 ∷ 5 ∷ 6 ∷ 25 ∷ []
 three_for_one = refl
 
--- 3 by 2 pixels, with 1 column of border to the left, 2 to the right, and 1 row above
+-- A plane of 3 by 2 pixels, with 1 column of border to the left, 2 columns to the right, and 1 row
+-- above.
 abbrev in_a_border : List ℕ → Raster ℕ
 in_a_border buffer = raster (geometry_of 3 2 1 2 1 0 1 1) buffer
 

@@ -15,14 +15,15 @@ use std::iter::FusedIterator;
 use std::marker::Model;
 use v_frame_raster::pixel::Pixel;
 
-/// A double-ended iterator over the bytes of the visible pixels of a plane, pixel after pixel, each with its low byte first.
+/// A double-ended iterator over the bytes of the visible pixels of a plane, pixel by pixel. Each pixel is encoded in
+/// little-endian order.
 ///
-/// From the back the high byte of the last pixel comes first. A pixel that was begun from one end may be finished from the
-/// other. A contract sees the iterator as the list of the bytes that are left. It takes the place of the iterator of
-/// `Plane::byte_data` of `v_frame` 0.7.0.
+/// From the back, the high byte of the last pixel comes first. If one end has yielded the first of two bytes of a pixel, the
+/// other end may yield the second. A contract sees the iterator as the list of the remaining bytes. The iterator replaces the
+/// unnamed one that `Plane::byte_data` of `v_frame` 0.7.0 returns.
 #[derive(Drop)]
 pub struct ByteData<'a, T: Pixel> {
-    // The pixel whose low byte was given, the pixels that were not begun, and the one whose high byte was given.
+    // The pixel whose low byte was yielded, the pixels that were not begun, and the pixel whose high byte was yielded.
     front: Option<T>,
     pixels: Pixels<'a, T>,
     back: Option<T>,
@@ -40,7 +41,7 @@ impl<'a, T: Pixel> Model for ByteData<'a, T> {
 }
 
 impl<'a, T: Pixel> ByteData<'a, T> {
-    /// Returns the bytes of the visible pixels of a plane.
+    /// Returns an iterator over the bytes of the visible pixels of `plane`.
     #[tactic(auto, using(crate::proofs::iterators::BegunPixels::few_bytes))]
     pub(crate) fn new(plane: &PlaneRef<'a, T>) -> Self
         ensures bytes { result ≡ byte_list T.form (table_of plane.now) }
@@ -67,7 +68,7 @@ impl<'a, T: Pixel> ByteData<'a, T> {
     }
 }
 
-/// Returns the low byte of a pixel, which is kept in `front` where it has another byte.
+/// Returns the low byte of a pixel, and stores the pixel in `front` if it has a second byte.
 #[inline]
 fn begin_front<T: Pixel>(pixel: T, front: &mut Option<T>) -> u8
     requires { front.old ≡ None }
@@ -81,7 +82,7 @@ fn begin_front<T: Pixel>(pixel: T, front: &mut Option<T>) -> u8
     pixel.le_byte(0)
 }
 
-/// Returns the last byte of a pixel, which is kept in `back` where it has another byte.
+/// Returns the last byte of a pixel, and stores the pixel in `back` if it has a second byte.
 #[inline]
 fn begin_back<T: Pixel>(pixel: T, back: &mut Option<T>) -> u8
     requires { back.old ≡ None }
@@ -163,7 +164,7 @@ impl<'a, T: Pixel> Clone for ByteData<'a, T> {
     }
 }
 
-/// The bytes that are left, as a list.
+/// Prints the remaining bytes as a list.
 impl<'a, T: Pixel> fmt::Debug for ByteData<'a, T> {
     fn fmt<W: fmt::Write>(&self, f: &mut fmt::Formatter<W>) -> fmt::Result {
         f.debug_list().entries(self.duplicate()).finish()

@@ -1,4 +1,4 @@
-//! The loop that all copies share: rows of a buffer, each written from a row of a source.
+//! The loop that all copies share: it writes each row of a buffer from a row of a source.
 ghost use Rattle.std.specs.Prelude.{◌≡◌, ℕ, ◌*◌, ◌≤◌, List, length, map};
 ghost use Rattle.v_frame_raster.specs.Table.{width_of, height_of};
 ghost use Rattle.v_frame_raster.specs.StridedRows.{strided_rows, KeepsRest, RowsFit};
@@ -7,26 +7,26 @@ ghost use Rattle.v_frame_raster.specs.Pixel.{pixels_of_bytes};
 use crate::rows_ref::RowsRef;
 use v_frame_raster::pixel::Pixel;
 
-/// How a source holds a row of pixels.
+/// The form in which a source holds a row of pixels.
 pub trait Encoding<T> {
-    /// What a source is a list of.
+    /// The type of the entries of a source.
     type Entry;
 
-    // The pixels of a row of this many, from the entries that hold them.
+    // The pixels of a row, computed from the number of pixels and from the entries that encode them.
     ghost row_of: { ℕ → List Self.Entry → List T };
 
     ghost ENTRIES: { ℕ };
 
-    /// Entries of one pixel.
+    /// The number of entries that encode one pixel.
     const ENTRIES: usize;
 
-    /// Overwrites a row with the pixels that the entries hold.
+    /// Overwrites `row` with the pixels that `entries` encode.
     fn write_row(row: &mut [T], entries: &[Self::Entry])
         requires { length entries.now ≡ ENTRIES * length row.old }
         ensures { row.new ≡ row_of (length row.old) entries.now };
 }
 
-/// A source of pixels.
+/// A source whose entries are pixels.
 pub struct AsPixels;
 
 impl<T: Copy> Encoding<T> for AsPixels {
@@ -43,7 +43,7 @@ impl<T: Copy> Encoding<T> for AsPixels {
     }
 }
 
-/// A source of bytes, the low byte of each pixel first.
+/// A source whose entries are bytes. Each pixel is encoded in little-endian order.
 pub struct AsBytes;
 
 impl<T: Pixel> Encoding<T> for AsBytes {
@@ -60,7 +60,7 @@ impl<T: Pixel> Encoding<T> for AsBytes {
     }
 }
 
-/// Writes rows of a buffer, each from the row of the source of the same number.
+/// Writes each row of `buffer` from the row of `source` with the same number. Entries outside the rows are unchanged.
 #[tactic(auto, using(v_frame_raster::proofs::tables::StridedWrites::row_ends))]
 pub fn write_rows<T, E: Encoding<T>>(
     source: &RowsRef<'_, E::Entry>,

@@ -1,7 +1,7 @@
-//! Laws of places, planes and the bytes in them: what callers may rely on beyond a single call.
+//! Laws of pixel positions, planes and bytes: facts that callers may rely on beyond a single call.
 //!
-//! Each function makes the calls that its law speaks of, and its contract is the law. A law of the definitions alone has
-//! an empty body. Our own.
+//! Each function makes the calls that its law is about, and its contract states the law. A law that is only about definitions
+//! has an empty body. Not part of `v_frame` 0.7.0.
 ghost use Rattle.std.specs.Prelude.{All, List, ℕ, ◌≡◌, ◌*◌, ◌<◌, ◌≤◌, ◌↔◌, IsTrue};
 ghost use Rattle.v_frame_raster.specs.Geometry.{Geometry, usize_max};
 ghost use Rattle.v_frame_raster.specs.Pixel.{one_byte};
@@ -24,66 +24,67 @@ pub fn buffer_is_determined<T: Pixel>()
     ensures { DeterminesBuffer T }
 {}
 
-/// Each visible pixel of a plane has a place of its own, in the buffer and in no piece of the border.
+/// Each visible pixel of a plane has its own place in the buffer. The place lies in no piece of the border.
 #[tactic(auto, using(v_frame_raster::proofs::tables::OwnPlaces::has_places))]
 pub fn pixels_have_places()
     ensures { (g : Geometry) → HasPlaces g }
 {}
 
-/// The entry at the place of a visible pixel is that pixel.
+/// The entry at the place of a visible pixel is this pixel.
 #[tactic(auto, using(v_frame_raster::proofs::tables::Places::pixel_inside))]
 pub fn places_hold_pixels<T: Pixel>()
     ensures { (p : Raster T) → HoldsPixels p }
 {}
 
-/// Each row of a table is a part of the buffer: as many pixels as the plane is wide, from the place of its first one on.
+/// Each row of a table is a part of the buffer. It begins at the place of its first pixel, and its length is the visible width.
 #[tactic(auto, using(v_frame_raster::proofs::tables::Places::rows_are_parts))]
 pub fn rows_are_parts<T>()
     ensures { (p : Raster T) → HoldsRows p }
 {}
 
-/// What a plane shows is a rectangle of its whole buffer, seen as a picture without a border.
+/// The table of a plane is a rectangle of its whole buffer, if the buffer is seen as a picture without a border.
 #[tactic(auto, using(v_frame_raster::proofs::tables::Regions::shows_rectangle))]
 pub fn tables_are_rectangles<T>()
     ensures { (p : Raster T) → ShowsRectangle p }
 {}
 
-/// Each place of a buffer has a mark, by its row and column: visible inside the rectangle, and else border. Past the end of the
-/// buffer no place has one.
+/// Each place of a buffer has a mark, which its row and column determine: visible inside the visible rectangle, border outside
+/// it. No place past the end of the buffer has a mark.
 #[tactic(auto, using(v_frame_raster::proofs::tables::Marks::has_marks))]
 pub fn places_have_marks()
     ensures { (g : Geometry) → HasMarks g }
 {}
 
-/// Planes of one geometry that hold the same entries at their visible places show the same table, and planes that hold the
-/// same at their border places have the same border.
+/// Two planes with equal geometries show the same table if they hold equal entries at all visible places. They have the same
+/// border if they hold equal entries at all border places.
 #[tactic(auto, using(v_frame_raster::proofs::tables::Entries::made_of_entries))]
 pub fn same_entries_same_table<T: Pixel>()
     ensures { (p q : Raster T) → p.geometry ≡ q.geometry → IsMadeOfEntries p q }
 {}
 
-/// Planes are equal exactly where their geometries and their whole buffers are, the borders too.
+/// Two planes are equal if and only if their geometries and their whole buffers are equal, including the borders.
 pub fn planes_are_equal<T: Pixel>(p: &Plane<T>, q: &Plane<T>) -> bool
     ensures { IsTrue result ↔ (p.now.geometry ≡ q.now.geometry) × (p.now.buffer ≡ q.now.buffer) }
 {
     p == q
 }
 
-/// The bytes of a packed source are those of the table that its copy leaves, where it was not refused.
+/// After a successful copy of packed bytes, the bytes of the table are the bytes of the source.
 pub fn bytes_come_back<T: Pixel>()
     ensures { (table : Table T) (source : List ℕ) → All (λ byte. byte < 256) source
         → ComesBack T.form source (packed_byte_copy T.form table source) }
 {}
 
-/// The bytes of a source with a stride are those of the table that its copy leaves, but for the tails of the rows, where it
-/// was not refused.
+/// After a successful copy of bytes with a stride, the bytes of the table are the bytes of the source without the bytes between
+/// the rows.
 pub fn bytes_come_back_without_tails<T: Pixel>()
     ensures { (table : Table T) (source : List ℕ) (stride : ℕ) → All (λ byte. byte < 256) source
         → ComesBack T.form (row_major (piece_fronts (width_of table * T.form.size) stride
         (height_of table) source)) (strided_copy T.form table source stride) }
 {}
 
-/// For pixels of one byte the packed copy of bytes is the packed copy of pixels, where the pixels of the table can be counted.
+/// For pixels of one byte, a copy of packed bytes has the same outcome as a copy of packed pixels. The number of pixels of the
+/// table must fit into a `usize`.
 #[tactic(auto, using(crate::proofs::copies::ByteLaws::one_byte_copies))]
 pub fn packed_outcomes_agree()
     ensures { (table : Table ℕ) (source : List ℕ)
@@ -91,7 +92,8 @@ pub fn packed_outcomes_agree()
         → packed_byte_copy one_byte table source ≡ packed_copy table source }
 {}
 
-/// Into equal planes of one-byte pixels the packed copies of pixels and of bytes do the same, and they leave equal planes.
+/// The copy of packed pixels and the copy of packed bytes do the same to two equal planes of one-byte pixels, and leave equal
+/// planes.
 pub fn packed_copies_agree(
     left: &mut Plane<u8>,
     right: &mut Plane<u8>,
@@ -104,36 +106,37 @@ pub fn packed_copies_agree(
 {
     let of_pixels = left.copy_from_slice(src);
     let of_bytes = right.copy_from_u8_slice(src);
-    // Buffers of one geometry, which are whole, are equal where tables and borders are.
+    // Whole buffers with equal geometries are equal if their tables and their borders are equal.
     let (_left, _right) = (left.data(), right.data());
     (of_pixels, of_bytes)
 }
 
-/// Rows for writing whose iterator is dropped hold, once the borrow of their plane ends, what they show. These are their final
-/// values, which the clauses `leaves` of `RowsMut::next` and `RowsMut::next_back` lead back to the rows with which the iterator
-/// began.
+/// If an iterator that lends rows for writing is dropped, its remaining rows still hold their current pixels when the borrow of
+/// the plane ends. These pixels are their final values. The clauses `leaves` of `RowsMut::next` and `RowsMut::next_back` relate
+/// these final values to the rows with which the iterator began.
 pub fn dropped_rows_keep_their_pixels<T>()
     ensures* { sem 𝓛 (DroppedRowsKeepTheirPixels T.row) }
 {}
 
-/// What an iterator over rows for writing means: where it is dropped, its rows hold what they show once the borrow of their
-/// plane ends, and what the rows of `Plane::rows_mut` hold then is the plane's table.
+/// States the meaning of an iterator that lends rows for writing. If it is dropped, its remaining rows still hold their current
+/// pixels when the borrow of the plane ends. The final values of the rows that `Plane::rows_mut` lends are the table of the
+/// plane.
 pub fn held_rows_are_the_table<T>()
     ensures* { sem 𝓛 (RowsAreHeld T.row) }
 {}
 
-/// Rows and pixels may be drawn from either end in any order, held after their iterator is dropped, and written in any order:
-/// when the borrow of the plane ends, its table is what each of them holds then, at the place from which it was drawn, and
-/// all else of the plane is as before.
+/// Rows and pixels may be drawn from either end in any order, held after their iterator is dropped, and written in any order.
+/// When the borrow of the plane ends, the table of the plane consists of the final values of all rows or pixels, each at the
+/// place from which it was drawn. The rest of the plane is unchanged.
 ///
-/// The law takes any list of calls of `next` and `next_back`, what each item holds in the end, and what the items hold that no
-/// call drew. [`dropped_rows_keep_their_pixels`] and [`dropped_pixels_keep_their_values`] say what the latter is if the iterator
-/// is dropped.
+/// The law covers any list of calls of `next` and `next_back`. [`dropped_rows_keep_their_pixels`] and
+/// [`dropped_pixels_keep_their_values`] state the final values of the items that no call drew, if the iterator is dropped.
 pub fn held_items_make_the_table<T>()
     ensures* { sem 𝓛 (HeldItemsMakeTheTable T.row) }
 {}
 
-/// Pixels for writing whose iterator is dropped hold, once the borrow of their plane ends, what they show, as rows do.
+/// If an iterator that lends pixels for writing is dropped, its remaining pixels still hold their current values when the
+/// borrow of the plane ends, as rows do.
 pub fn dropped_pixels_keep_their_values<T>()
     ensures* { sem 𝓛 (DroppedPixelsKeepTheirValues T.row) }
 {}

@@ -1,18 +1,18 @@
-//! Planes: rectangles of visible pixels inside a border, each in one buffer.
+//! Planes: a plane is a rectangle of visible pixels inside a border, stored in one buffer.
 //!
-//! Users name `v_frame`, which re-exports all of this. [`plane`] has what they call, and [`laws`] what holds of it beyond a
-//! single call. All else is private, and stands on the buffer of `v_frame_buffer`. What a plane shows is defined in
-//! `v_frame_raster`. From the bottom up:
+//! Users import these items from `v_frame`, which re-exports all of them. [`plane`] has the public calls. [`laws`] states facts
+//! that go beyond a single call. The other modules are private, and use the buffer of `v_frame_buffer`. `v_frame_raster`
+//! defines which table of pixels a plane shows. The modules, from the lowest layer to the highest:
 //!
-//! | module | what it promises to those above |
+//! | module | what it provides to the layers above |
 //! |---|---|
-//! | `place` | Where a row begins and where a pixel is, in a geometry that fits. |
-//! | `error` | Why a copy is refused. |
-//! | `rows_ref` | Rows of a stride in a slice, read as the table that they are. |
-//! | `plane_ref` | A geometry and a slice that is the whole buffer, read as a plane. |
-//! | `rows`, `pixels`, `bytes`, `rows_mut`, `pixels_mut` | The five iterators: the list of the items that are left, of which `next` takes the first and `next_back` the last. |
-//! | `strided` | Copies into the rows of a buffer. |
-//! | `encoding` | The loop that all copies share: each visible row, written from the front of its piece of a source. `plane` has the copies themselves. |
+//! | `place` | Computes where a row begins and where a pixel lies in the buffer, for a geometry that fits. |
+//! | `error` | The reasons why a copy fails. |
+//! | `rows_ref` | Reads rows that lie a stride apart in a slice as a table of pixels. |
+//! | `plane_ref` | Reads a geometry and a slice that is the whole buffer as a plane. |
+//! | `rows`, `pixels`, `bytes`, `rows_mut`, `pixels_mut` | The five iterators. Each is a list of remaining items: `next` removes the first item, `next_back` removes the last. |
+//! | `strided` | Copies pixels and bytes into the rows of a buffer. |
+//! | `encoding` | The loop that all copies share: it writes each visible row from the front of the matching piece of the source. The copies themselves are in `plane`. |
 #![tactic(auto)]
 
 mod bytes;

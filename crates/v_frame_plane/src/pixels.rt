@@ -13,13 +13,13 @@ use std::iter::FusedIterator;
 use std::marker::Model;
 use std::{fmt, mem};
 
-/// A double-ended iterator over the visible pixels of a plane, row after row from the top.
+/// A double-ended iterator over the visible pixels of a plane, row by row from the top.
 ///
-/// A contract sees it as the list of the pixels that are left. It takes the place of the iterator of `Plane::pixels` of
-/// `v_frame` 0.7.0.
+/// A contract sees the iterator as the list of the remaining pixels. The iterator replaces the unnamed one that `Plane::pixels`
+/// of `v_frame` 0.7.0 returns.
 #[derive(Drop)]
 pub struct Pixels<'a, T> {
-    // The row that was begun from the front, the rows that were not begun, and the one that was begun from the back.
+    // The row that was begun from the front, the rows that were not begun, and the row that was begun from the back.
     front: &'a [T],
     rows: Rows<'a, T>,
     back: &'a [T],
@@ -38,7 +38,7 @@ impl<'a, T> Model for Pixels<'a, T> {
 }
 
 impl<'a, T> Pixels<'a, T> {
-    /// Returns the visible pixels of a plane.
+    /// Returns an iterator over the visible pixels of `plane`.
     pub(crate) fn new(plane: &PlaneRef<'a, T>) -> Self
         ensures pixels { result ≡ row_major (table_of plane.now) }
         ensures count { length result ≡ plane.now.geometry.width * plane.now.geometry.height }
@@ -134,7 +134,7 @@ impl<'a, T> Clone for Pixels<'a, T> {
     }
 }
 
-/// The pixels that are left, as a list.
+/// Prints the remaining pixels as a list.
 impl<'a, T: Copy + fmt::Debug> fmt::Debug for Pixels<'a, T> {
     fn fmt<W: fmt::Write>(&self, f: &mut fmt::Formatter<W>) -> fmt::Result {
         f.debug_list().entries(self.duplicate()).finish()

@@ -11,15 +11,15 @@ use crate::rows_mut::RowsMut;
 use std::iter::FusedIterator;
 use std::mem;
 
-/// A double-ended iterator over the visible pixels of a plane for writing, row after row from the top.
+/// A double-ended iterator that lends the visible pixels of a plane for writing, row by row from the top.
 ///
-/// A pixel may be held while the iterator gives others, and outlives the iterator. The contracts of [`PixelsMut::next`] and
-/// [`PixelsMut::next_back`] say what the pixels leave in the plane. A `for` loop or an adapter calls the traits' methods
-/// instead, whose contracts give the pixels and their number, and not what they leave. It takes the place of the iterator of
-/// `Plane::pixels_mut` of `v_frame` 0.7.0.
+/// A caller may keep a pixel while the iterator yields further pixels, and after the iterator is dropped. The contracts of
+/// [`PixelsMut::next`] and [`PixelsMut::next_back`] state what the plane shows after writes to the pixels. A `for` loop or an
+/// adapter calls the methods of the traits instead, whose contracts state which pixels are yielded and how many, but not what
+/// the plane shows after writes. The iterator replaces the unnamed one that `Plane::pixels_mut` of `v_frame` 0.7.0 returns.
 #[derive(Drop)]
 pub struct PixelsMut<'a, T> {
-    // The row that was begun from the front, the rows that were not begun, and the one that was begun from the back.
+    // The row that was begun from the front, the rows that were not begun, and the row that was begun from the back.
     front: &'a mut [T],
     rows: RowsMut<'a, T>,
     back: &'a mut [T],
@@ -30,7 +30,7 @@ impl<'a, T> PixelsMut<'a, T> {
     ghost use Rattle.v_frame_plane.specs.PixelsLeft.{pixels_left};
     ghost use Rattle.v_frame_plane.specs.FinalPixels.{LendsFirstPixel, LendsLastPixel, TakesFirstPixel, TakesLastPixel};
 
-    /// Returns the pixels of these rows.
+    /// Returns an iterator over the pixels of `rows`.
     pub(crate) fn new(rows: RowsMut<'a, T>) -> Self
         requires { PixelsAreCountable [] (rows_left rows) [] }
         ensures rows { result.rows ≡ rows.entry }
@@ -68,8 +68,8 @@ impl<'a, T> PixelsMut<'a, T> {
         pixel
     }
 
-    /// Returns the next pixel, as [`Iterator::next`] gives it. The clause `leaves`, which the trait's `next` doesn't have,
-    /// says what the plane shows once the borrow ends. Our own.
+    /// Returns the next pixel, as [`Iterator::next`] does. The clause `leaves`, which the `next` of the trait does not have,
+    /// states what the plane shows when the borrow ends. Not part of `v_frame` 0.7.0.
     #[inline]
     pub fn next(&mut self) -> Option<&'a mut T>
         ensures* leaves { sem 𝓛 (LendsFirstPixel T.row self.old result self.new) }
@@ -84,13 +84,14 @@ impl<'a, T> PixelsMut<'a, T> {
             if self.front.len() == 0 {
                 return None;
             }
-            // Also below: were it there alone, each pixel of a row that was begun would take a jump more.
+            // This call is repeated below: a single call after this block would cost a jump for each pixel of a row that was
+            // begun.
             return Some(self.next_of_front());
         }
         Some(self.next_of_front())
     }
 
-    /// Returns the last pixel, as [`DoubleEndedIterator::next_back`] gives it. Our own.
+    /// Returns the last pixel, as [`DoubleEndedIterator::next_back`] does. Not part of `v_frame` 0.7.0.
     #[inline]
     pub fn next_back(&mut self) -> Option<&'a mut T>
         ensures* leaves { sem 𝓛 (LendsLastPixel T.row self.old result self.new) }
@@ -105,7 +106,8 @@ impl<'a, T> PixelsMut<'a, T> {
             if self.back.len() == 0 {
                 return None;
             }
-            // Also below: were it there alone, each pixel of a row that was begun would take a jump more.
+            // This call is repeated below: a single call after this block would cost a jump for each pixel of a row that was
+            // begun.
             return Some(self.next_of_back());
         }
         Some(self.next_of_back())
@@ -157,7 +159,7 @@ impl<'a, T> ExactSizeIterator for PixelsMut<'a, T> {
 
 impl<'a, T> FusedIterator for PixelsMut<'a, T> {}
 
-/// Returns a slice that isn't empty, cut into its first entry and the rest.
+/// Splits a slice that is not empty into its first entry and the remaining entries.
 #[inline]
 fn cut_first<T>(slice: &mut [T]) -> (&mut T, &mut [T])
     requires { 0 < length slice.old }
@@ -168,7 +170,8 @@ fn cut_first<T>(slice: &mut [T]) -> (&mut T, &mut [T])
     (&mut first[0], rest)
 }
 
-/// Returns a slice that isn't empty, cut into its last entry and the rest.
+/// Splits a slice that is not empty into its last entry and the remaining entries. The last entry is the first item of the
+/// result.
 #[inline]
 fn cut_last<T>(slice: &mut [T]) -> (&mut T, &mut [T])
     requires { 0 < length slice.old }

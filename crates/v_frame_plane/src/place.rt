@@ -1,10 +1,10 @@
-//! Where the visible pixels of a geometry are in its buffer.
+//! The indices of visible pixels in the buffer of a geometry.
 ghost use Rattle.std.specs.Prelude.{◌≡◌, ◌+◌, ◌*◌, ◌<◌, ◌≤◌, IfSome, IsNone};
 ghost use Rattle.v_frame_raster.specs.Geometry.{alloc_size_of, IsGeometry, Fits, place_of};
 
 use v_frame_raster::geometry::PlaneGeometry;
 
-/// Returns the index of the first pixel of row `y`.
+/// Returns the index of the first pixel of row `y` in the buffer.
 #[tactic(auto, using(v_frame_raster::proofs::Plans::row_start_within))]
 pub fn row_start(geometry: PlaneGeometry, y: usize) -> usize
     requires fits { Fits geometry }
@@ -15,7 +15,7 @@ pub fn row_start(geometry: PlaneGeometry, y: usize) -> usize
     geometry.data_origin() + geometry.stride() * y
 }
 
-/// Returns the index of a visible pixel.
+/// Returns the index of the visible pixel in column `x` of row `y` in the buffer.
 pub fn visible_place(geometry: PlaneGeometry, x: usize, y: usize) -> usize
     requires fits { Fits geometry }
     requires wide { x < geometry.width }
@@ -26,7 +26,8 @@ pub fn visible_place(geometry: PlaneGeometry, x: usize, y: usize) -> usize
     row_start(geometry, y) + x
 }
 
-/// Returns the index of column 0 of row `y` in the buffer. Returns `None` if the buffer ends before that index.
+/// Returns the index of column 0 of row `y` in the buffer, or `None` if this index is past the end of the buffer. Row `y` may
+/// lie in the border below the visible rows.
 #[tactic(auto, using(v_frame_raster::proofs::Plans::row_in_buffer, v_frame_raster::proofs::Plans::no_row_in_buffer))]
 pub fn row_in_buffer(geometry: PlaneGeometry, y: usize) -> Option<usize>
     requires { Fits geometry }

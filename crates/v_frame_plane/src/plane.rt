@@ -1,6 +1,6 @@
-//! Planes: one component of a frame each.
+//! Planes: the color components of a frame, such as luma or one chroma channel.
 //!
-//! A [`Plane`] is a rectangle of visible pixels inside a border, all in one buffer, row after row from the top:
+//! A [`Plane`] is a rectangle of visible pixels inside a border. All of its rows are in one buffer, from top to bottom:
 //!
 //! ```text
 //!              stride = pad_left + width + pad_right
@@ -16,10 +16,11 @@
 //!       o is at index data_origin of the buffer, (x, y) at index data_origin + stride * y + x
 //! ```
 //!
-//! What a plane shows is the table of its visible rows. [`copy_from_slice`](Plane::copy_from_slice),
-//! [`row_mut`](Plane::row_mut), the iterators and the other visible calls write the table alone. [`data_mut`](Plane::data_mut)
-//! reaches the border, and so does [`pixel_mut`](Plane::pixel_mut) past the visible width. [`PlaneRef`] reads a plane whose
-//! buffer is kept elsewhere, and [`RowsRef`] rows that have no border.
+//! The visible pixels form a table: a list of rows from top to bottom. [`copy_from_slice`](Plane::copy_from_slice),
+//! [`row_mut`](Plane::row_mut), the iterators and the other calls for visible pixels write only this table.
+//! [`data_mut`](Plane::data_mut) also gives access to the border, and [`pixel_mut`](Plane::pixel_mut) does when `x` is at least
+//! the visible width. [`PlaneRef`] reads a plane whose buffer is stored elsewhere, for example in a decoder's picture.
+//! [`RowsRef`] reads rows that have no border.
 ghost use Rattle.std.specs.Prelude.{All, List, ℕ, ◌≡◌, [], ◌*◌, ◌^◌, ◌<◌, ◌≤◌, ◌↔◌, length, IsNone, IfOk, IfSome, Some, slice_get, option_copied};
 ghost use Rattle.std.specs.Map.Iter.{ShowsInOrder, ShowsInReverse, GivesInOrder, GivesInReverse, deref};
 ghost use Rattle.v_frame_raster.specs.Geometry.{alloc_size_of, Fits, place_of};
@@ -51,10 +52,10 @@ pub use v_frame_raster::geometry::{PlaneGeometry, SubsamplingError};
 use v_frame_raster::pixel::Pixel;
 pub use visible::VisibleMut;
 
-/// A rectangle of visible pixels inside a border, in one buffer.
+/// A rectangle of visible pixels inside a border, stored in one buffer.
 ///
-/// Rows are counted from the top and columns from the left, both from 0. Planes are equal where their geometries and their
-/// whole buffers are, the borders too. Ports `Plane` of `v_frame` 0.7.0.
+/// Rows are counted from the top and columns from the left, both starting at 0. Two planes are equal if their geometries and
+/// their whole buffers are equal, including the borders. Ports `Plane` of `v_frame` 0.7.0.
 #[derive(Drop)]
 pub struct Plane<T> {
     geometry: PlaneGeometry,
@@ -83,14 +84,14 @@ impl<T> Plane<T> {
     ghost use Rattle.v_frame_plane.specs.LendsTable.{LendsRows, LendsPixelTable};
     ghost use Rattle.v_frame_plane.specs.PixelsLeft.{pixels_left, LendsPixelsInOrder, LendsPixelsInReverse};
 
-    /// Returns the plane, lent for reading. Our own.
+    /// Borrows the plane as a [`PlaneRef`]. Nothing is copied. Not part of `v_frame` 0.7.0.
     pub fn as_plane_ref(&self) -> PlaneRef<'_, T>
         ensures { result ≡ self.now }
     {
         PlaneRef::of_parts(self.geometry, self.buffer.as_slice())
     }
 
-    /// Returns the visible width in pixels, never zero.
+    /// Returns the width of the visible rectangle in pixels. It is never zero.
     ///
     /// Ports `Plane::width` of `v_frame` 0.7.0.
     #[tactic(auto, using(v_frame_raster::proofs::tables::Sizes::width_of_shown, v_frame_raster::proofs::tables::Places::rows_are_wide))]
@@ -103,7 +104,7 @@ impl<T> Plane<T> {
         self.geometry.width()
     }
 
-    /// Returns the visible height in pixels, never zero.
+    /// Returns the height of the visible rectangle in pixels. It is never zero.
     ///
     /// Ports `Plane::height` of `v_frame` 0.7.0.
     #[tactic(auto, using(v_frame_raster::proofs::tables::Sizes::height_of_shown))]
@@ -115,9 +116,10 @@ impl<T> Plane<T> {
         self.geometry.height()
     }
 
-    /// Returns the layout of the plane. Its [`checked_alloc_size`](PlaneGeometry::checked_alloc_size) is `Some`.
+    /// Returns the layout of the plane. The layout's [`checked_alloc_size`](PlaneGeometry::checked_alloc_size) is always
+    /// `Some`.
     ///
-    /// Ports `Plane::geometry` of `v_frame` 0.7.0, which a feature switches there.
+    /// Ports `Plane::geometry` of `v_frame` 0.7.0, where it requires the feature `padding_api`.
     pub fn geometry(&self) -> PlaneGeometry
         ensures value { result ≡ self.now.geometry }
         ensures fits { Fits result }
@@ -125,9 +127,9 @@ impl<T> Plane<T> {
         self.geometry
     }
 
-    /// Returns the whole buffer, row after row from the top, with the border.
+    /// Returns the whole buffer for reading: all rows from top to bottom, including the border.
     ///
-    /// Ports `Plane::data` of `v_frame` 0.7.0, which a feature switches there.
+    /// Ports `Plane::data` of `v_frame` 0.7.0, where it requires the feature `padding_api`.
     pub fn data(&self) -> &[T]
         ensures value { result.now ≡ self.now.buffer }
         ensures whole { length result.now ≡ alloc_size_of self.now.geometry }
@@ -135,9 +137,9 @@ impl<T> Plane<T> {
         self.as_plane_ref().data()
     }
 
-    /// Returns the whole buffer for writing, the border too.
+    /// Returns the whole buffer for writing: all rows from top to bottom, including the border.
     ///
-    /// Ports `Plane::data_mut` of `v_frame` 0.7.0, which a feature switches there.
+    /// Ports `Plane::data_mut` of `v_frame` 0.7.0, where it requires the feature `padding_api`.
     pub fn data_mut(&mut self) -> &mut [T]
         ensures* writes_back { sem 𝓛 (LendsBuffer T.row self.entry result) }
         ensures value { result.now ≡ self.old.buffer }
@@ -146,7 +148,7 @@ impl<T> Plane<T> {
         self.buffer.as_mut_slice()
     }
 
-    /// Returns the visible pixels of row `y`. `None` exactly below the visible rectangle.
+    /// Returns the visible pixels of row `y`, or `None` if `y` is not less than [`height`](Self::height).
     ///
     /// Ports `Plane::row` of `v_frame` 0.7.0.
     pub fn row(&self, y: usize) -> Option<&[T]>
@@ -157,9 +159,9 @@ impl<T> Plane<T> {
         self.as_plane_ref().row(y)
     }
 
-    /// Returns the visible pixels of row `y`, which must be below [`height`](Self::height).
+    /// Returns the visible pixels of row `y`. The row number `y` must be less than [`height`](Self::height).
     ///
-    /// Our own, beside [`row`](Self::row).
+    /// Not part of `v_frame` 0.7.0. Use [`row`](Self::row) if `y` may be out of range.
     pub fn visible_row(&self, y: usize) -> &[T]
         requires { y < self.now.geometry.height }
         ensures value { slice_get (table_of self.now) y ≡ Some result.now }
@@ -168,10 +170,11 @@ impl<T> Plane<T> {
         self.as_plane_ref().visible_row(y)
     }
 
-    /// Returns the visible pixels of row `y` for writing. `None` exactly below the visible rectangle.
+    /// Returns the visible pixels of row `y` for writing, or `None` if `y` is not less than [`height`](Self::height).
     ///
-    /// After writing through it, automatic proofs know nothing of the pixels, since the toolchain follows no `Option` of a
-    /// slice for writing. Where the table that is left has to be proved, use [`visible_row_mut`](Self::visible_row_mut).
+    /// Automatic proofs know nothing about the pixels of the plane after a write through this slice, because the toolchain
+    /// cannot follow a mutable slice inside an `Option`. Use [`visible_row_mut`](Self::visible_row_mut) if you need to prove
+    /// what the plane shows after the write.
     ///
     /// Ports `Plane::row_mut` of `v_frame` 0.7.0.
     pub fn row_mut(&mut self, y: usize) -> Option<&mut [T]>
@@ -186,9 +189,10 @@ impl<T> Plane<T> {
         Some(self.visible_row_mut(y))
     }
 
-    /// Returns the visible pixels of row `y` for writing. `y` must be below [`height`](Self::height).
+    /// Returns the visible pixels of row `y` for writing. The row number `y` must be less than [`height`](Self::height).
     ///
-    /// Our own, beside [`row_mut`](Self::row_mut): a caller's automatic proof knows what is written through it.
+    /// Not part of `v_frame` 0.7.0. Use [`row_mut`](Self::row_mut) if `y` may be out of range. The automatic proof of a caller
+    /// knows which pixels are written through this slice.
     pub fn visible_row_mut(&mut self, y: usize) -> &mut [T]
         requires { y < self.old.geometry.height }
         ensures* writes_back { sem 𝓛 (LendsVisibleRow T.row self.entry y result) }
@@ -201,7 +205,8 @@ impl<T> Plane<T> {
         self.buffer.part_mut(start, start + geometry.width())
     }
 
-    /// Returns a double-ended iterator over the visible rows, from the top.
+    /// Returns a double-ended iterator over the visible rows, from top to bottom. Each item is a slice of
+    /// [`width`](Self::width) pixels.
     ///
     /// Ports `Plane::rows` of `v_frame` 0.7.0.
     pub fn rows(&self) -> Rows<'_, T>
@@ -214,11 +219,11 @@ impl<T> Plane<T> {
         self.as_plane_ref().rows()
     }
 
-    /// Returns a double-ended iterator over the visible rows for writing, from the top.
+    /// Returns a double-ended iterator that lends the visible rows for writing, from top to bottom.
     ///
-    /// Rows may be held while the iterator gives others, and written in any order, even after the iterator is dropped. When the
-    /// borrow ends, the plane shows what each row held last, and all else is as it was. The contracts of [`RowsMut::next`] and
-    /// [`RowsMut::next_back`] say which row is which.
+    /// A caller may keep a row while the iterator yields further rows. Kept rows may be written in any order, even after the
+    /// iterator is dropped. When the borrow ends, each visible row holds the pixels that were last written to it; the border is
+    /// unchanged. The contracts of [`RowsMut::next`] and [`RowsMut::next_back`] state which row of the plane each item is.
     ///
     /// Ports `Plane::rows_mut` of `v_frame` 0.7.0.
     pub fn rows_mut(&mut self) -> RowsMut<'_, T>
@@ -235,10 +240,11 @@ impl<T> Plane<T> {
         RowsMut::new(geometry, self.buffer.as_mut_slice())
     }
 
-    /// Returns the visible pixel at column `x` of row `y`, for writing. `x` must be below [`width`](Self::width), and `y`
-    /// below [`height`](Self::height).
+    /// Returns the visible pixel in column `x` of row `y`, for writing. `x` must be less than [`width`](Self::width), and `y`
+    /// must be less than [`height`](Self::height).
     ///
-    /// Our own, beside [`pixel_mut`](Self::pixel_mut). To write many pixels, write by rows, which is much faster.
+    /// Not part of `v_frame` 0.7.0. Use [`pixel_mut`](Self::pixel_mut) if `x` or `y` may be out of range. To write many pixels,
+    /// write whole rows instead, which is much faster.
     pub fn visible_pixel_mut(&mut self, x: usize, y: usize) -> &mut T
         requires wide { x < self.old.geometry.width }
         requires high { y < self.old.geometry.height }
@@ -253,12 +259,12 @@ impl<T> Plane<T> {
         self.buffer.entry_mut(place)
     }
 
-    /// Returns a double-ended iterator over the visible pixels for writing, row after row from the top.
+    /// Returns a double-ended iterator that lends the visible pixels for writing, row by row from the top.
     ///
-    /// Pixels may be held while the iterator gives others, and written in any order, even after the iterator is dropped. When
-    /// the borrow ends, the plane shows what each pixel held last, and all else is as it was. The contracts of
-    /// [`PixelsMut::next`] and [`PixelsMut::next_back`] say which pixel is which. To write whole rows,
-    /// [`rows_mut`](Self::rows_mut) is much faster.
+    /// A caller may keep a pixel while the iterator yields further pixels. Kept pixels may be written in any order, even after
+    /// the iterator is dropped. When the borrow ends, each visible pixel holds the value that was last written to it; the
+    /// border is unchanged. The contracts of [`PixelsMut::next`] and [`PixelsMut::next_back`] state which pixel of the plane
+    /// each item is. To write whole rows, [`rows_mut`](Self::rows_mut) is much faster.
     ///
     /// Ports `Plane::pixels_mut` of `v_frame` 0.7.0.
     pub fn pixels_mut(&mut self) -> PixelsMut<'_, T>
@@ -278,13 +284,16 @@ impl<T: Pixel> Plane<T> {
     ghost use Rattle.v_frame_raster.specs.Writes.{WritesEachPixel};
     ghost use Rattle.v_frame_plane.specs.Lends.{LendsPixel};
 
-    /// Returns a plane of zeros, in its border too. Our own: private in `v_frame` 0.7.0.
+    /// Allocates a plane with layout `geometry` whose entries are all zero, including the border.
     ///
-    /// The [`checked_alloc_size`](PlaneGeometry::checked_alloc_size) of the geometry has to be `Some`.
+    /// The [`checked_alloc_size`](PlaneGeometry::checked_alloc_size) of `geometry` must be `Some`.
+    ///
+    /// Not part of `v_frame` 0.7.0. Users of `v_frame` 0.7.0 get planes only from a frame builder, because its `Plane::new` is
+    /// private.
     ///
     /// # Errors
     ///
-    /// [`AllocError`] where the request for the buffer's memory was refused.
+    /// [`AllocError`] if the memory for the buffer cannot be allocated.
     pub fn new(alloc: Global, geometry: PlaneGeometry) -> Result<Self, AllocError>
         requires { Fits geometry }
         ensures { IfOk result (λ plane. plane ≡ filled T.ZERO geometry) }
@@ -293,11 +302,12 @@ impl<T: Pixel> Plane<T> {
         Ok(Plane { geometry, buffer })
     }
 
-    /// Returns the entry at the index of column `x` and row `y`. `None` exactly where that index is past the end of the
+    /// Returns the entry of the buffer at `data_origin + stride * y + x`, or `None` if this index is past the end of the
     /// buffer.
     ///
-    /// Past the visible width it reaches the border, or the next row where there is no border: only the end of the buffer is
-    /// tested. Ports `Plane::pixel` of `v_frame` 0.7.0, which does the same.
+    /// For a visible pixel, this is the pixel in column `x` of row `y`. If `x` is at least the visible width, the entry belongs
+    /// to the border, or to the next row if there is no border. Only the end of the buffer is checked. Ports `Plane::pixel` of
+    /// `v_frame` 0.7.0, which has the same behavior.
     pub fn pixel(&self, x: usize, y: usize) -> Option<T>
         ensures value { result ≡ slice_get self.now.buffer (place_of self.now.geometry x y) }
         ensures none { IsNone result
@@ -308,11 +318,11 @@ impl<T: Pixel> Plane<T> {
         self.as_plane_ref().pixel(x, y)
     }
 
-    /// Returns the entry at the index of column `x` and row `y`, for writing. `None` exactly where that index is past the
-    /// end of the buffer.
+    /// Returns the entry of the buffer at `data_origin + stride * y + x` for writing, or `None` if this index is past the end
+    /// of the buffer.
     ///
-    /// Like [`pixel`](Self::pixel), it reaches past the visible width. To write many pixels, write by rows, which is much
-    /// faster. Ports `Plane::pixel_mut` of `v_frame` 0.7.0.
+    /// As with [`pixel`](Self::pixel), the entry may lie in the border or in the next row if `x` is at least the visible width.
+    /// To write many pixels, write whole rows instead, which is much faster. Ports `Plane::pixel_mut` of `v_frame` 0.7.0.
     pub fn pixel_mut(&mut self, x: usize, y: usize) -> Option<&mut T>
         ensures* writes_back { sem 𝓛 (LendsPixel T.row self.entry x y result) }
         ensures value { option_copied_mut result
@@ -328,7 +338,7 @@ impl<T: Pixel> Plane<T> {
         self.buffer.get_mut_after(start, x)
     }
 
-    /// Returns a double-ended iterator over the visible pixels, row after row from the top.
+    /// Returns a double-ended iterator over the visible pixels, row by row from the top.
     ///
     /// Ports `Plane::pixels` of `v_frame` 0.7.0.
     pub fn pixels(&self) -> Pixels<'_, T>
@@ -341,8 +351,8 @@ impl<T: Pixel> Plane<T> {
         self.as_plane_ref().pixels()
     }
 
-    /// Returns a double-ended iterator over the bytes of the visible pixels, row after row from the top, each pixel with its
-    /// low byte first.
+    /// Returns a double-ended iterator over the bytes of the visible pixels, row by row from the top. Each pixel is encoded in
+    /// little-endian order.
     ///
     /// Ports `Plane::byte_data` of `v_frame` 0.7.0.
     pub fn byte_data(&self) -> ByteData<'_, T>
@@ -356,9 +366,10 @@ impl<T: Pixel> Plane<T> {
         self.as_plane_ref().byte_data()
     }
 
-    /// Returns how many bytes [`byte_data`](Self::byte_data) gives: those of `width * height` pixels.
+    /// Returns the number of bytes that [`byte_data`](Self::byte_data) yields: `width * height` times the size of a pixel in
+    /// bytes.
     ///
-    /// It reads none of them. Our own.
+    /// No pixel is read. Not part of `v_frame` 0.7.0.
     pub fn byte_len(&self) -> usize
         ensures value { result
             ≡ self.now.geometry.width * self.now.geometry.height * T.form.size }

@@ -1,4 +1,4 @@
-//! A plane's two parts, lent for reading: a geometry, and a slice that is the whole buffer.
+//! Borrowed planes: a geometry, and a slice that is the whole buffer.
 ghost use Rattle.std.specs.Prelude.{All, List, ℕ, ◌≡◌, ◌^◌, ◌<◌, ◌≤◌, ◌*◌, ◌↔◌, drop, length, unsigned_abs, IsNone, IfSome, SomeIff, Some, slice_get, option_copied};
 ghost use Rattle.std.specs.Map.Iter.{ShowsInOrder, ShowsInReverse, GivesInOrder, GivesInReverse, deref};
 ghost use Rattle.v_frame_raster.specs.Geometry.{alloc_size_of, Fits, IsInside, origin_of, place_of, region_geometry, buffer_column, buffer_region, buffer_row, IsInBuffer};
@@ -17,11 +17,11 @@ use std::marker::Model;
 use v_frame_raster::geometry::PlaneGeometry;
 use v_frame_raster::pixel::Pixel;
 
-/// A plane that is kept elsewhere, for reading: its geometry, and a slice that is its whole buffer.
+/// A borrowed plane whose buffer is stored elsewhere: a geometry, and a slice that is the whole buffer.
 ///
-/// The slice may belong to a decoder's picture, to a file in memory or to an array of one's own; a
-/// [`Plane`](crate::plane::Plane) lends itself by [`as_plane_ref`](crate::plane::Plane::as_plane_ref). Contracts see a
-/// `PlaneRef` as a plane. Our own.
+/// The slice may belong to a decoder's picture, to a file in memory or to an array. A [`Plane`](crate::plane::Plane) is
+/// borrowed as a `PlaneRef` by [`as_plane_ref`](crate::plane::Plane::as_plane_ref). Contracts see a `PlaneRef` as a plane. Not
+/// part of `v_frame` 0.7.0.
 #[derive(Drop)]
 pub struct PlaneRef<'a, T> {
     geometry: PlaneGeometry,
@@ -39,10 +39,10 @@ impl<'a, T> Model for PlaneRef<'a, T> {
 }
 
 impl<'a, T> PlaneRef<'a, T> {
-    /// Returns the plane of a geometry and a buffer. `None` exactly where
-    /// [`checked_alloc_size`](PlaneGeometry::checked_alloc_size) is not `Some` of the buffer's length.
+    /// Returns the plane with layout `geometry` whose whole buffer is `buffer`. Returns `None` if
+    /// [`checked_alloc_size`](PlaneGeometry::checked_alloc_size) is not `Some` of the length of `buffer`.
     ///
-    /// Our own.
+    /// Not part of `v_frame` 0.7.0.
     pub fn new(geometry: PlaneGeometry, buffer: &'a [T]) -> Option<Self>
         ensures { SomeIff result (IsWhole geometry buffer.now) (raster geometry buffer.now) }
     {
@@ -52,7 +52,7 @@ impl<'a, T> PlaneRef<'a, T> {
         Some(Self::of_parts(geometry, buffer))
     }
 
-    /// Returns the plane of these parts, which belong together.
+    /// Returns the plane of these parts. `buffer` must be a whole buffer for `geometry`.
     pub(crate) fn of_parts(geometry: PlaneGeometry, buffer: &'a [T]) -> Self
         requires { IsWhole geometry buffer.now }
         ensures { result ≡ raster geometry buffer.now }
@@ -60,7 +60,7 @@ impl<'a, T> PlaneRef<'a, T> {
         PlaneRef { geometry, buffer }
     }
 
-    /// What the plane shows, without its border. Our own.
+    /// Returns the visible rows, without the border. Nothing is copied. Not part of `v_frame` 0.7.0.
     pub fn as_rows_ref(&self) -> RowsRef<'a, T>
         ensures value { result ≡ table_of self.now }
         ensures width { width_of result ≡ self.now.geometry.width }
@@ -76,9 +76,9 @@ impl<'a, T> PlaneRef<'a, T> {
         )
     }
 
-    /// Returns a second view of the same plane.
+    /// Returns a second `PlaneRef` to the same plane. Nothing is copied.
     ///
-    /// Our own, in place of `Clone`, which may fail here, and `Copy`, which a type with a model of its own can't have.
+    /// Not part of `v_frame` 0.7.0. In Rattle, `Clone` may fail, and a type with its own model cannot be `Copy`.
     pub fn duplicate(&self) -> Self
         ensures { result ≡ self.now }
     {
@@ -88,11 +88,13 @@ impl<'a, T> PlaneRef<'a, T> {
         }
     }
 
-    /// Returns the rectangle of `width` by `height` pixels that begins at column `x` of row `y`, as a plane over the same
-    /// buffer.
+    /// Returns the rectangle of `width` by `height` visible pixels that begins at column `x` of row `y`, as a plane over the
+    /// same buffer.
     ///
-    /// `None` exactly where the rectangle is empty or not inside the visible one. Everything around it is border, and the
-    /// ratios stay. Nothing is copied: what reads a plane, as a motion search does, reads a block of one too. Our own.
+    /// Everything around the rectangle becomes border, and the subsampling ratios are unchanged. Nothing is copied. A motion
+    /// search can therefore compare blocks of a plane with the calls that compare whole planes.
+    ///
+    /// Returns `None` if the rectangle is empty or does not lie inside the visible one. Not part of `v_frame` 0.7.0.
     #[tactic(auto, using(v_frame_raster::proofs::tables::Regions::region_shows))]
     pub fn region(&self, x: usize, y: usize, width: usize, height: usize) -> Option<Self>
         ensures value { let geometry = self.now.geometry in
@@ -105,8 +107,11 @@ impl<'a, T> PlaneRef<'a, T> {
         Some(Self::of_parts(geometry, self.buffer))
     }
 
-    /// The same of a rectangle that is not empty and inside the visible one: compare it with [`width`](Self::width) and
-    /// [`height`](Self::height). Our own.
+    /// Returns the rectangle of `width` by `height` visible pixels that begins at column `x` of row `y`, as
+    /// [`region`](Self::region) does.
+    ///
+    /// The rectangle must not be empty, and must lie inside the visible one: `x + width` may be at most [`width`](Self::width),
+    /// and `y + height` at most [`height`](Self::height). Not part of `v_frame` 0.7.0.
     #[tactic(auto, using(v_frame_raster::proofs::tables::Regions::region_shows))]
     pub fn visible_region(&self, x: usize, y: usize, width: usize, height: usize) -> Self
         requires { IsInside self.now.geometry x y width height }
@@ -120,10 +125,12 @@ impl<'a, T> PlaneRef<'a, T> {
         Self::of_parts(geometry, self.buffer)
     }
 
-    /// Returns a rectangle as [`region`](Self::region) does, which may reach into the border: columns to the left of the first
-    /// visible pixel and rows above it are negative. It is what a motion vector points at.
+    /// Returns a rectangle as [`region`](Self::region) does, but it may extend into the border. Column `x` and row `y` are
+    /// counted from the first visible pixel, so columns to its left and rows above it are negative. A motion vector may point
+    /// at such a rectangle.
     ///
-    /// `None` exactly where the rectangle is empty or not inside the buffer. Nothing is copied. Our own.
+    /// Nothing is copied. Returns `None` if the rectangle is empty or does not lie inside the buffer. Not part of `v_frame`
+    /// 0.7.0.
     pub fn region_with_border(
         &self,
         x: isize,
@@ -142,7 +149,7 @@ impl<'a, T> PlaneRef<'a, T> {
         Some(Self::of_parts(geometry, self.buffer))
     }
 
-    /// Returns the visible width in pixels, never zero.
+    /// Returns the width of the visible rectangle in pixels. It is never zero.
     #[tactic(auto, using(v_frame_raster::proofs::tables::Sizes::width_of_shown, v_frame_raster::proofs::tables::Places::rows_are_wide))]
     pub fn width(&self) -> usize
         ensures value { result ≡ self.now.geometry.width }
@@ -153,7 +160,7 @@ impl<'a, T> PlaneRef<'a, T> {
         self.geometry.width()
     }
 
-    /// Returns the visible height in pixels, never zero.
+    /// Returns the height of the visible rectangle in pixels. It is never zero.
     #[tactic(auto, using(v_frame_raster::proofs::tables::Sizes::height_of_shown, v_frame_raster::proofs::Plans::visible_within))]
     pub fn height(&self) -> usize
         ensures value { result ≡ self.now.geometry.height }
@@ -164,7 +171,8 @@ impl<'a, T> PlaneRef<'a, T> {
         self.geometry.height()
     }
 
-    /// Returns the layout of the plane. Its [`checked_alloc_size`](PlaneGeometry::checked_alloc_size) is `Some`.
+    /// Returns the layout of the plane. The layout's [`checked_alloc_size`](PlaneGeometry::checked_alloc_size) is always
+    /// `Some`.
     pub fn geometry(&self) -> PlaneGeometry
         ensures value { result ≡ self.now.geometry }
         ensures fits { Fits result }
@@ -172,7 +180,7 @@ impl<'a, T> PlaneRef<'a, T> {
         self.geometry
     }
 
-    /// Returns the whole buffer, row after row from the top, with the border.
+    /// Returns the whole buffer: all rows from top to bottom, including the border.
     pub fn data(&self) -> &'a [T]
         ensures value { result.now ≡ self.now.buffer }
         ensures whole { length result.now ≡ alloc_size_of self.now.geometry }
@@ -180,7 +188,7 @@ impl<'a, T> PlaneRef<'a, T> {
         self.buffer
     }
 
-    /// Returns the visible pixels of row `y`. `None` exactly below the visible rectangle.
+    /// Returns the visible pixels of row `y`, or `None` if `y` is not less than [`height`](Self::height).
     #[tactic(auto, using(v_frame_raster::proofs::tables::Places::no_row_below))]
     pub fn row(&self, y: usize) -> Option<&'a [T]>
         ensures value { option_copied result ≡ slice_get (table_of self.now) y }
@@ -193,9 +201,9 @@ impl<'a, T> PlaneRef<'a, T> {
         Some(self.visible_row(y))
     }
 
-    /// Returns the visible pixels of row `y`, which must be below [`height`](Self::height).
+    /// Returns the visible pixels of row `y`. The row number `y` must be less than [`height`](Self::height).
     ///
-    /// Our own, beside [`row`](Self::row).
+    /// Not part of `v_frame` 0.7.0. Use [`row`](Self::row) if `y` may be out of range.
     #[tactic(auto, using(v_frame_raster::proofs::tables::Places::shown_slice))]
     pub fn visible_row(&self, y: usize) -> &'a [T]
         requires { y < self.now.geometry.height }
@@ -206,7 +214,8 @@ impl<'a, T> PlaneRef<'a, T> {
         &self.buffer[start..start + self.geometry.width()]
     }
 
-    /// Returns a double-ended iterator over the visible rows, from the top.
+    /// Returns a double-ended iterator over the visible rows, from top to bottom. Each item is a slice of
+    /// [`width`](Self::width) pixels.
     pub fn rows(&self) -> Rows<'a, T>
         ensures rows { result ≡ table_of self.now }
         ensures wide { All (λ row. length row ≡ self.now.geometry.width) result }
@@ -219,10 +228,11 @@ impl<'a, T> PlaneRef<'a, T> {
 }
 
 impl<'a, T: Copy> PlaneRef<'a, T> {
-    /// Returns the entry at the index of column `x` and row `y`. Returns `None` exactly if that index is past the end of the
+    /// Returns the entry of the buffer at `data_origin + stride * y + x`, or `None` if this index is past the end of the
     /// buffer.
     ///
-    /// Past the visible width the index is in the border, or in the next row if the plane has no border there.
+    /// For a visible pixel, this is the pixel in column `x` of row `y`. If `x` is at least the visible width, the entry belongs
+    /// to the border, or to the next row if there is no border.
     pub fn pixel(&self, x: usize, y: usize) -> Option<T>
         ensures value { result ≡ slice_get self.now.buffer (place_of self.now.geometry x y) }
         ensures none { IsNone result
@@ -230,12 +240,12 @@ impl<'a, T: Copy> PlaneRef<'a, T> {
         ensures inside { x < self.now.geometry.width → y < self.now.geometry.height
             → result ≡ pixel_at (table_of self.now) x y }
     {
-        // A loop over `x` tests the row once, before its first pixel. So each pixel costs one comparison.
+        // A loop over `x` checks the row only once, before its first pixel. Each pixel then costs one comparison.
         let start = row_in_buffer(self.geometry, y)?;
         self.entries_from(start).get(x).copied()
     }
 
-    /// Returns the entries of the buffer from index `start` on. `start` must be at most the length of the buffer.
+    /// Returns the entries of the buffer from index `start` on. The index `start` must be at most the length of the buffer.
     fn entries_from(&self, start: usize) -> &'a [T]
         requires { start ≤ length self.now.buffer }
         ensures { result.now ≡ drop start self.now.buffer }
@@ -243,8 +253,8 @@ impl<'a, T: Copy> PlaneRef<'a, T> {
         &self.buffer[start..]
     }
 
-    /// Returns the visible pixel of column `x` in row `y`, which must be below [`width`](Self::width) and
-    /// [`height`](Self::height).
+    /// Returns the visible pixel in column `x` of row `y`. `x` must be less than [`width`](Self::width), and `y` must be less
+    /// than [`height`](Self::height).
     pub fn visible_pixel(&self, x: usize, y: usize) -> T
         requires wide { x < self.now.geometry.width }
         requires high { y < self.now.geometry.height }
@@ -253,7 +263,7 @@ impl<'a, T: Copy> PlaneRef<'a, T> {
         self.buffer[visible_place(self.geometry, x, y)]
     }
 
-    /// Returns a double-ended iterator over the visible pixels, row after row from the top.
+    /// Returns a double-ended iterator over the visible pixels, row by row from the top.
     pub fn pixels(&self) -> Pixels<'a, T>
         ensures pixels { result ≡ row_major (table_of self.now) }
         ensures count { length result ≡ self.now.geometry.width * self.now.geometry.height }
@@ -266,8 +276,8 @@ impl<'a, T: Copy> PlaneRef<'a, T> {
 }
 
 impl<'a, T: Pixel> PlaneRef<'a, T> {
-    /// Returns a double-ended iterator over the bytes of the visible pixels, row after row from the top, each pixel with its
-    /// low byte first.
+    /// Returns a double-ended iterator over the bytes of the visible pixels, row by row from the top. Each pixel is encoded in
+    /// little-endian order.
     pub fn byte_data(&self) -> ByteData<'a, T>
         ensures bytes { result ≡ byte_list T.form (table_of self.now) }
         ensures count { length result
@@ -279,9 +289,10 @@ impl<'a, T: Pixel> PlaneRef<'a, T> {
         ByteData::new(self)
     }
 
-    /// Writes the bytes of the visible pixels, row after row from the top, each pixel with its low byte first.
+    /// Writes the bytes of the visible pixels into `bytes`, row by row from the top. Each pixel is encoded in little-endian
+    /// order.
     ///
-    /// There must be as many as [`byte_len`](Self::byte_len) says.
+    /// The length of `bytes` must be [`byte_len`](Self::byte_len).
     pub fn write_bytes(&self, bytes: &mut [u8])
         requires { length bytes.old ≡ length (byte_list T.form (table_of self.now)) }
         ensures { bytes.new ≡ byte_list T.form (table_of self.now) }
@@ -297,7 +308,8 @@ impl<'a, T: Pixel> PlaneRef<'a, T> {
         );
     }
 
-    /// Returns how many bytes [`byte_data`](Self::byte_data) gives: those of `width * height` pixels. It reads none of them.
+    /// Returns the number of bytes that [`byte_data`](Self::byte_data) yields: `width * height` times the size of a pixel in
+    /// bytes. No pixel is read.
     pub fn byte_len(&self) -> usize
         ensures value { result
             ≡ self.now.geometry.width * self.now.geometry.height * T.form.size }

@@ -13,17 +13,17 @@ use std::fmt;
 use std::iter::FusedIterator;
 use std::marker::Model;
 
-/// A double-ended iterator over the visible rows of a plane, from the top.
+/// A double-ended iterator over the visible rows of a plane, from top to bottom. Each row is a slice of pixels.
 ///
-/// A contract sees it as the list of the rows that are left. It takes the place of the iterator of `Plane::rows` of `v_frame`
-/// 0.7.0.
+/// A contract sees the iterator as the list of the remaining rows. The iterator replaces the unnamed one that `Plane::rows` of
+/// `v_frame` 0.7.0 returns.
 #[derive(Drop)]
 pub struct Rows<'a, T> {
     // The next row begins at index `start` of `rest`.
     rest: &'a [T],
     start: usize,
     width: usize,
-    // The entries between two rows.
+    // The number of entries between the end of a row and the start of the next.
     gap: usize,
     count: usize,
 }
@@ -40,7 +40,7 @@ impl<'a, T> Model for Rows<'a, T> {
 }
 
 impl<'a, T> Rows<'a, T> {
-    /// Returns the visible rows of a plane.
+    /// Returns an iterator over the visible rows of `plane`.
     #[tactic(auto, using(crate::proofs::iterators::Cursors::visible_rows))]
     pub(crate) fn new(plane: &PlaneRef<'a, T>) -> Self
         ensures rows { result ≡ table_of plane.now }
@@ -59,7 +59,7 @@ impl<'a, T> Rows<'a, T> {
         }
     }
 
-    /// Returns how many pixels the rows that are left have.
+    /// Returns the number of pixels in the remaining rows.
     #[inline]
     pub(crate) fn pixel_count(&self) -> usize
         ensures { result ≡ length (row_major self.now) }
@@ -151,7 +151,7 @@ impl<'a, T> Clone for Rows<'a, T> {
     }
 }
 
-/// The rows that are left, as a list.
+/// Prints the remaining rows as a list.
 impl<'a, T: fmt::Debug> fmt::Debug for Rows<'a, T> {
     fn fmt<W: fmt::Write>(&self, f: &mut fmt::Formatter<W>) -> fmt::Result {
         f.debug_list().entries(self.duplicate()).finish()

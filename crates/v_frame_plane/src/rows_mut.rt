@@ -12,19 +12,20 @@ use std::iter::FusedIterator;
 use std::mem;
 use v_frame_raster::geometry::PlaneGeometry;
 
-/// A double-ended iterator over the visible rows of a plane for writing, from the top.
+/// A double-ended iterator that lends the visible rows of a plane for writing, from top to bottom. Each row is a slice of
+/// pixels.
 ///
-/// A row may be held while the iterator gives others, and outlives the iterator. The contracts of [`RowsMut::next`] and
-/// [`RowsMut::next_back`] say what the rows leave in the plane. A `for` loop or an adapter calls the traits' methods instead,
-/// whose contracts give the rows and their number, and not what they leave. It takes the place of the iterator of
-/// `Plane::rows_mut` of `v_frame` 0.7.0.
+/// A caller may keep a row while the iterator yields further rows, and after the iterator is dropped. The contracts of
+/// [`RowsMut::next`] and [`RowsMut::next_back`] state what the plane shows after writes to the rows. A `for` loop or an adapter
+/// calls the methods of the traits instead, whose contracts state which rows are yielded and how many, but not what the plane
+/// shows after writes. The iterator replaces the unnamed one that `Plane::rows_mut` of `v_frame` 0.7.0 returns.
 #[derive(Drop)]
 pub struct RowsMut<'a, T> {
     // The next row begins at index `start` of `rest`.
     rest: &'a mut [T],
     start: usize,
     width: usize,
-    // The entries between two rows.
+    // The number of entries between the end of a row and the start of the next.
     gap: usize,
     count: usize,
     ghost within: { RowsAreWithin start width gap count (length rest.now) },
@@ -34,7 +35,7 @@ impl<'a, T> RowsMut<'a, T> {
     ghost use Rattle.v_frame_plane.specs.RowsLeft.{rows_left, rows_slice};
     ghost use Rattle.v_frame_plane.specs.FinalRows.{LendsFirstRow, LendsLastRow, WritesEachTable};
 
-    /// Returns the visible rows of a whole buffer.
+    /// Returns an iterator over the visible rows of a whole buffer.
     pub(crate) fn new(geometry: PlaneGeometry, buffer: &'a mut [T]) -> Self
         requires { IsWhole geometry buffer.old }
         ensures same_reference { (rows_slice result).ghost_name ≡ buffer.entry.ghost_name }
@@ -55,7 +56,7 @@ impl<'a, T> RowsMut<'a, T> {
         }
     }
 
-    /// Returns how many pixels the rows that are left have.
+    /// Returns the number of pixels in the remaining rows.
     #[inline]
     pub(crate) fn pixel_count(&self) -> usize
         ensures { result ≡ length (row_major (rows_left self.now)) }
@@ -63,8 +64,8 @@ impl<'a, T> RowsMut<'a, T> {
         self.count * self.width
     }
 
-    /// Returns the next row, as [`Iterator::next`] gives it. The clause `leaves`, which the trait's `next` doesn't have,
-    /// says what the plane shows once the borrow ends. Our own.
+    /// Returns the next row, as [`Iterator::next`] does. The clause `leaves`, which the `next` of the trait does not have,
+    /// states what the plane shows when the borrow ends. Not part of `v_frame` 0.7.0.
     #[inline]
     pub fn next(&mut self) -> Option<&'a mut [T]>
         ensures* leaves { sem 𝓛 (LendsFirstRow T.row self.old result self.new) }
@@ -96,7 +97,7 @@ impl<'a, T> RowsMut<'a, T> {
         Some(row.0)
     }
 
-    /// Returns the last row, as [`DoubleEndedIterator::next_back`] gives it. Our own.
+    /// Returns the last row, as [`DoubleEndedIterator::next_back`] does. Not part of `v_frame` 0.7.0.
     #[inline]
     pub fn next_back(&mut self) -> Option<&'a mut [T]>
         ensures* leaves { sem 𝓛 (LendsLastRow T.row self.old result self.new) }
@@ -117,7 +118,7 @@ impl<'a, T> RowsMut<'a, T> {
         let place = row_place(start, width, gap, left);
         let cut = mem::take(&mut self.rest).split_at_mut(place);
         let row = cut.1.split_at_mut(width);
-        // What lies in front of the row is kept.
+        // The entries before the row are kept.
         *self = RowsMut {
             rest: cut.0,
             start,
@@ -129,7 +130,7 @@ impl<'a, T> RowsMut<'a, T> {
     }
 }
 
-/// Where the row of this number begins, counted from the next one.
+/// Returns the index at which row `row` begins, if row 0 is the next row.
 #[inline]
 fn row_place(start: usize, width: usize, gap: usize, row: usize) -> usize
     requires stride { width + gap < 2 ^ 64 }

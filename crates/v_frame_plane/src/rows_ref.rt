@@ -1,14 +1,15 @@
-//! Rows that are kept elsewhere, lent for reading: a slice, in which each row begins a stride after the one before.
+//! Borrowed rows that are stored elsewhere: a slice whose rows lie a stride apart.
 ghost use Rattle.std.specs.Prelude.{All, ◌≡◌, ◌*◌, ◌^◌, ◌<◌, ◌≤◌, ◌↔◌, length, IsNone, IsTrue, IfSome, SomeIff, Some, slice_get, option_copied};
 ghost use Rattle.v_frame_raster.specs.Table.{width_of, height_of, rectangle};
 ghost use Rattle.v_frame_raster.specs.StridedRows.{strided_rows, RowsFit, IsInsideTable};
 
 use std::marker::Model;
 
-/// A picture that is kept elsewhere, for reading: rows of one width in a slice, each a stride after the one before.
+/// A borrowed picture that is stored elsewhere: rows of equal width in a slice. Row `y` begins at index `stride * y`.
 ///
-/// It asks for less than a [`PlaneRef`](crate::plane_ref::PlaneRef): the last row may end at its width, as in a part of a
-/// decoder's picture, and the slice may be longer. It has no border, and contracts see it as the table of its rows. Our own.
+/// It has fewer requirements than a [`PlaneRef`](crate::plane_ref::PlaneRef). The last row may end at its width, as it does in
+/// a cropped decoder picture, and the slice may be longer than the rows. It has no border. Contracts see it as the table of its
+/// rows. Not part of `v_frame` 0.7.0.
 #[derive(Drop)]
 pub struct RowsRef<'a, T> {
     buffer: &'a [T],
@@ -17,11 +18,11 @@ pub struct RowsRef<'a, T> {
     stride: usize,
 }
 
-/// Returns whether rows of `width` pixels, each `stride` after the one before, end within so many entries, none are empty, and
-/// none overlap.
+/// Returns whether `height` rows of `width` pixels, which lie `stride` entries apart, fit into `entries` entries. The rows must
+/// neither be empty nor overlap.
 ///
-/// The last row may end at its width. It is what [`RowsRef::new`] asks for, and what is asked of a buffer whose rows are
-/// written. Our own.
+/// The last row may end at its width. [`RowsRef::new`] requires this of its slice, and the calls that write rows require it of
+/// their buffer. Not part of `v_frame` 0.7.0.
 pub fn rows_fit(width: usize, height: usize, stride: usize, entries: usize) -> bool
     ensures { IsTrue result ↔ RowsFit width height stride entries }
 {
@@ -47,9 +48,10 @@ impl<'a, T> Model for RowsRef<'a, T> {
 }
 
 impl<'a, T> RowsRef<'a, T> {
-    /// Returns the picture of `width` by `height` pixels in which row `y` begins at index `stride * y` of a slice.
+    /// Returns the picture of `width` by `height` pixels whose row `y` begins at index `stride * y` of `buffer`.
     ///
-    /// `None` exactly where a size is zero, the stride is below the width, or the last row would end past the slice.
+    /// Returns `None` if `width` or `height` is zero, if `stride` is less than `width`, or if the last row would end past the
+    /// end of `buffer`.
     pub fn new(buffer: &'a [T], width: usize, height: usize, stride: usize) -> Option<Self>
         ensures value { SomeIff result (RowsFit width height stride (length buffer.now))
             (strided_rows width height stride buffer.now) }
@@ -62,7 +64,7 @@ impl<'a, T> RowsRef<'a, T> {
         Some(Self::of_parts(buffer, width, height, stride))
     }
 
-    /// Returns the picture of these parts, which belong together.
+    /// Returns the picture of these parts. The rows must fit into `buffer`.
     pub(crate) fn of_parts(buffer: &'a [T], width: usize, height: usize, stride: usize) -> Self
         requires { RowsFit width height stride (length buffer.now) }
         ensures value { result ≡ strided_rows width height stride buffer.now }
@@ -77,7 +79,7 @@ impl<'a, T> RowsRef<'a, T> {
         }
     }
 
-    /// Returns the width in pixels, never zero.
+    /// Returns the width in pixels. It is never zero.
     pub fn width(&self) -> usize
         ensures value { result ≡ width_of self.now }
         ensures positive { 0 < result }
@@ -86,7 +88,7 @@ impl<'a, T> RowsRef<'a, T> {
         self.width
     }
 
-    /// Returns the height in pixels, never zero.
+    /// Returns the height in pixels. It is never zero.
     pub fn height(&self) -> usize
         ensures value { result ≡ height_of self.now }
         ensures positive { 0 < result }
@@ -95,7 +97,7 @@ impl<'a, T> RowsRef<'a, T> {
         self.height
     }
 
-    /// Returns the pixels of row `y`. `None` exactly below the last row.
+    /// Returns the pixels of row `y`, or `None` if `y` is not less than [`height`](Self::height).
     pub fn row(&self, y: usize) -> Option<&'a [T]>
         ensures value { option_copied result ≡ slice_get self.now y }
         ensures none { IsNone result ↔ (height_of self.now ≤ y) }
@@ -107,7 +109,7 @@ impl<'a, T> RowsRef<'a, T> {
         Some(self.visible_row(y))
     }
 
-    /// Returns the pixels of row `y`, which must be below [`height`](Self::height).
+    /// Returns the pixels of row `y`. The row number `y` must be less than [`height`](Self::height).
     pub fn visible_row(&self, y: usize) -> &'a [T]
         requires { y < height_of self.now }
         ensures value { slice_get self.now y ≡ Some result.now }
@@ -117,9 +119,10 @@ impl<'a, T> RowsRef<'a, T> {
         &self.buffer[start..start + self.width]
     }
 
-    /// Returns the rectangle of `width` by `height` pixels that begins at column `x` of row `y`, as rows of the same slice.
+    /// Returns the rectangle of `width` by `height` pixels that begins at column `x` of row `y`. It borrows rows of the same
+    /// slice; nothing is copied.
     ///
-    /// `None` exactly where the rectangle is empty or not inside.
+    /// Returns `None` if the rectangle is empty or does not lie inside the picture.
     pub fn region(&self, x: usize, y: usize, width: usize, height: usize) -> Option<Self>
         ensures { SomeIff result (IsInsideTable self.now x y width height)
             (rectangle x y width height self.now) }
@@ -133,8 +136,11 @@ impl<'a, T> RowsRef<'a, T> {
         Some(self.visible_region(x, y, width, height))
     }
 
-    /// The same of a rectangle that is not empty and inside: compare it with [`width`](Self::width) and
-    /// [`height`](Self::height).
+    /// Returns the rectangle of `width` by `height` pixels that begins at column `x` of row `y`, as [`region`](Self::region)
+    /// does.
+    ///
+    /// The rectangle must not be empty, and must lie inside the picture: `x + width` may be at most [`width`](Self::width), and
+    /// `y + height` at most [`height`](Self::height).
     pub fn visible_region(&self, x: usize, y: usize, width: usize, height: usize) -> Self
         requires { IsInsideTable self.now x y width height }
         ensures value { result ≡ rectangle x y width height self.now }

@@ -1,7 +1,8 @@
-//! Copies into rows of a buffer, each a stride after the one before: from rows of pixels and of bytes, and to bytes.
+//! Copies into the rows of a buffer, which lie a stride apart: from pixels to pixels, from bytes to pixels, and from pixels to
+//! bytes.
 //!
-//! What is asked of such a buffer is what [`rows_fit`](crate::rows_ref::rows_fit) tests. It may be longer, its last row may end
-//! at its width, and all of it but the rows stays as it was. Our own.
+//! Each call requires that [`rows_fit`](crate::rows_ref::rows_fit) returns `true` for its buffer. The buffer may be longer than
+//! the rows, and its last row may end at its width. All entries outside the rows are unchanged. Not part of `v_frame` 0.7.0.
 ghost use Rattle.std.specs.Prelude.{◌≡◌, ◌*◌, length, map};
 ghost use Rattle.v_frame_raster.specs.Pixel.{bytes_of_pixels, pixels_of_bytes};
 ghost use Rattle.v_frame_raster.specs.Table.{width_of, height_of};
@@ -11,7 +12,9 @@ use crate::encoding::{AsBytes, AsPixels, write_rows};
 use crate::rows_ref::RowsRef;
 use v_frame_raster::pixel::{Pixel, encode_row};
 
-/// Copies a picture into the rows of a buffer, which are as wide and as many.
+/// Copies the picture `source` into the rows of `buffer`. Row `y` begins at index `stride * y`.
+///
+/// The size of `source` must be `width` by `height` pixels. Entries of `buffer` outside the rows are unchanged.
 pub fn copy_rows<T: Copy>(
     source: &RowsRef<'_, T>,
     buffer: &mut [T],
@@ -28,9 +31,10 @@ pub fn copy_rows<T: Copy>(
     write_rows::<T, AsPixels>(source, buffer, width, height, stride);
 }
 
-/// Decodes rows of bytes, the low byte of each pixel first, into the rows of a buffer of pixels.
+/// Decodes rows of bytes into the rows of a buffer of pixels. Each pixel is encoded in little-endian order.
 ///
-/// `width` and `stride` count pixels. A row of the source has [`BYTES`](Pixel::BYTES) bytes for each pixel.
+/// `width` and `stride` count pixels. A row of `source` must have [`BYTES`](Pixel::BYTES) bytes for each pixel, and `source`
+/// must have `height` rows. Entries of `buffer` outside the rows are unchanged.
 pub fn decode_rows<T: Pixel>(
     source: &RowsRef<'_, u8>,
     buffer: &mut [T],
@@ -48,9 +52,10 @@ pub fn decode_rows<T: Pixel>(
     write_rows::<T, AsBytes>(source, buffer, width, height, stride);
 }
 
-/// Encodes a picture into rows of bytes, the low byte of each pixel first.
+/// Encodes the picture `source` into rows of bytes. Each pixel is encoded in little-endian order.
 ///
-/// `width` and `stride` count bytes. A row of the buffer has [`BYTES`](Pixel::BYTES) bytes for each pixel of the source.
+/// `width` and `stride` count bytes. A row of `buffer` must have [`BYTES`](Pixel::BYTES) bytes for each pixel of a row of
+/// `source`, and `source` must have `height` rows. Bytes of `buffer` outside the rows are unchanged.
 #[tactic(auto, using(v_frame_raster::proofs::tables::StridedWrites::row_ends))]
 pub fn encode_rows<T: Pixel>(
     source: &RowsRef<'_, T>,

@@ -1,4 +1,4 @@
--- Geometries of chroma planes: they are no larger than that of luma, and their size is that of the chroma planes.
+-- Geometries of chroma planes: they are not larger than that of luma, and their size is that of the chroma planes.
 use Rattle.std.proofs.Common.{ℕ, ◌≡◌, ◌≤◌, true, Option, Some, None, Result, Ok, Err, refl, arith, eqb-true, ◌==◌}
 use Rattle.std.proofs.lemmas.Bool.Decides.{nat_tests}
 use Rattle.std.proofs.Math.Nat.{div-le_self, mul-le-mul_left, mul-le-mul_right}
@@ -12,7 +12,7 @@ use Rattle.v_frame_raster.specs.declared.chroma.ChromaSubsampling.{ChromaSubsamp
 use Rattle.std.proofs.lemmas.Bool.{cond_both}
 pub use Rattle.std.proofs.lemmas.Bool.{and_parts as both_true}
 
--- the geometry of chroma has the size of the chroma planes, and is no larger than that of luma
+-- The chroma geometry has the size of the chroma planes, and is not larger than that of luma.
 abbrev Sized : Option (ℕ × ℕ) → Geometry → Geometry → Type 0
 Sized ratio g c =
     (size_by ratio g.width g.height ≡ Some (c.width, c.height))
@@ -47,7 +47,7 @@ module _ (x y : ℕ) (g : Geometry) where
       ) in
       (rw (sides.0, sides.1), div-le_self g.width x, div-le_self g.height y, less)
 
-  -- what holds of what each test of the ratio leads to holds of what is made
+  -- A property of each outcome of the tests of the ratio is a property of the result.
   pub by_ratio : (P : Result (Option Geometry) SubsamplingError → Type 0) → (is_full (x, y) ≡ true → P (Ok (Some g)))
       → (is_divisible x y g ≡ true → P (Ok (Some (divided_geometry x y g)))) → P (Err (record {}))
       → P (subsampled_by (Some (x, y)) g)
@@ -65,11 +65,11 @@ given_by : (r : Result (Option Geometry) SubsamplingError) (c : Geometry) → ge
 given_by (Ok o) c e = cc
 given_by (Err x) c e = cc
 
--- where luma fits, chroma does
+-- If luma fits, chroma fits.
 pub chroma_fits : (s : ChromaSubsampling) (g c : Geometry) → geometry_in (subsampled s g) ≡ Some c → Fits g → Fits c
 chroma_fits s g c e fits = omega (arith, (has_size (ratio_of s) g c (given_by (subsampled s g) c e)).3)
 
--- what the conversion to an option gives
+-- The result of the conversion to an option.
 pub geometry_of_ok : (r : Result (Option Geometry) SubsamplingError) (c : Option Geometry) → result_ok r ≡ Some c
     → geometry_in r ≡ c
 geometry_of_ok (Ok o) c e = cc
@@ -85,7 +85,7 @@ has_chroma_size s luma chroma e =
     let is = has_size (ratio_of s) luma chroma e in
     record { size = is.0; no_wider = is.1; no_higher = is.2; no_larger = is.3 }
 
--- without chroma there is no size
+-- Without chroma there is no size.
 no_size_by : (ratio : Option (ℕ × ℕ)) (g : Geometry) → subsampled_by ratio g ≡ Ok None
     → size_by ratio g.width g.height ≡ None
 no_size_by None g e = refl

@@ -1,4 +1,4 @@
--- Rows of half the size, in lanes of two neighbours.
+-- Rows at half the size, in lanes that hold two adjacent pixels.
 use Rattle.std.proofs.Common.{ℕ, zero, suc, ◌≡◌, ◌+◌, ◌-◌, ◌*◌, ◌/◌, ◌%◌, ◌^◌, ◌<◌, ◌≤◌, List, ◌∷◌, length, take}
 use Rattle.std.proofs.Common.{get_or, bit_and, refl, ◌∙◌, arith, Fits, w16}
 use Rattle.std.specs.Simd.Lanes.{zip2, number_l, digits_l}
@@ -9,16 +9,16 @@ use mir.Val.{bits}
 use Rattle.v_frame_raster.specs.Pixel.{one_byte, two_bytes}
 use Rattle.v_frame_raster.specs.PixelRows.{halved, rounded_mean}
 
--- pixels of a width with room in two of them for the sum of four
+-- Pixels of a width for which two pixels together can hold the sum of four.
 module _ (w : Width) (room : 4 ≤ 2 ^ bits w) where
   abbrev base : ℕ
   base = 2 ^ bits w
 
-  -- lanes that hold two neighbours each
+  -- Lanes that hold two adjacent pixels each.
   abbrev lanes : ℕ → List ℕ → List ℕ
   lanes n pixels = digits_l (base * base) n (number_l base (take (2 * n) pixels))
 
-  -- what such a lane, and the lane below, become
+  -- The pixel that results from such a lane and the lane below it.
   abbrev lane_mean : ℕ → ℕ → ℕ
   lane_mean t b =
       let size = base * base in
@@ -62,7 +62,7 @@ module _ (w : Width) (room : 4 ≤ 2 ^ bits w) where
       rw (e, upper.0, upper.1, lower.0, lower.1, mean, others)
   halved_lanes n top bottom long long1 fits fits1 = absurd (omega (arith, long, long1))
 
--- lanes of two wider pixels, which are made of their bytes
+-- Lanes of two two-byte pixels, which consist of their bytes.
 abbrev word_lanes : ℕ → List ℕ → List ℕ
 word_lanes n pixels =
     digits_l 4294967296 n (number_l 256 (digits_l 256 (2 * (2 * n)) (number_l 65536 (take (2 * n) pixels))))

@@ -1,4 +1,4 @@
--- Rows of half the size, in pieces.
+-- Rows at half the size, in pieces.
 use Rattle.std.proofs.Common.{ℕ, zero, suc, ◌≡◌, ◌+◌, ◌-◌, ◌*◌, ◌<◌, ◌≤◌, List, [], ◌∷◌, ◌++◌, length, take, drop}
 use Rattle.std.proofs.Common.{get_or, set, refl, ◌∙◌, ap, arith}
 use Rattle.std.specs.Simd.Lanes.{put_chunk}
@@ -10,7 +10,7 @@ use Rattle.v_frame_raster.specs.Pixel.{PixelForm}
 use Rattle.v_frame_raster.specs.PixelRows.{halved, rounded_mean}
 
 module _ {T : Type 0} (form : PixelForm T) where
-  -- rows that are joined, the first two of one even length
+  -- The halves of joined rows, of which the first two have the same even length.
   pub halved-append : (n : ℕ) (top bottom top1 bottom1 : List T) → length top ≡ 2 * n → length bottom ≡ 2 * n
       → halved form (top ++ top1) (bottom ++ bottom1) ≡ halved form top bottom ++ halved form top1 bottom1
   halved-append zero [] [] top1 bottom1 long long1 = refl
@@ -25,7 +25,7 @@ module _ {T : Type 0} (form : PixelForm T) where
       ap suc (length-halved n top bottom (omega (arith, long)) (omega (arith, long1)))
   length-halved n top bottom long long1 = absurd (omega (arith, long, long1))
 
-  -- the fronts of two rows are some pixels, and then those of what these leave
+  -- The halves of the fronts of two rows are some pixels, followed by the halves of the rest.
   halved-fronts : (n more : ℕ) (top bottom : List T) → 2 * (n + more) ≤ length top → 2 * (n + more) ≤ length bottom
       → halved form (take (2 * (n + more)) top) (take (2 * (n + more)) bottom)
       ≡ halved form (take (2 * n) top) (take (2 * n) bottom) ++ halved form (take (2 * more) (drop (2 * n) top))
@@ -36,11 +36,11 @@ module _ {T : Type 0} (form : PixelForm T) where
       (halved-append n (take (2 * n) top) (take (2 * n) bottom) _ _ (length-take-le (2 * n) top (omega (arith, long)))
       (length-take-le (2 * n) bottom (omega (arith, long1))))
 
-  -- the first pixels are those of the fronts of the rows
+  -- The first pixels are the halves of the fronts of the rows.
   abbrev pub HalvedUpTo : ℕ → List T → List T → List T → Type 0
   HalvedUpTo at pixels top bottom = take at pixels ≡ halved form (take (2 * at) top) (take (2 * at) bottom)
 
-  -- a loop that writes a block of n lanes at a time, one step on
+  -- One step of a loop that writes a block of n lanes at a time.
   pub halved-block_more : (n block from : ℕ) (pixels top bottom lanes : List T)
       → let at : ℕ = n * block in from ≡ 2 * at → at + n ≤ length pixels
       → length top ≡ 2 * length pixels → length bottom ≡ 2 * length pixels
@@ -58,7 +58,7 @@ module _ {T : Type 0} (form : PixelForm T) where
       let more = halved-fronts at n top bottom (omega (arith, room, long)) (omega (arith, room, long1)) in
       rw (on, take_more_put_chunk at pixels lanes (at + n) (omega (arith, count)) room, so_far, here, more)
 
-  -- a loop that writes a pixel at a time, one step on
+  -- One step of a loop that writes one pixel at a time.
   pub halved-one_more : (i : ℕ) (pixels top bottom : List T) (pixel d : T) → i < length pixels
       → length top ≡ 2 * length pixels → length bottom ≡ 2 * length pixels
       → let at : List T → ℕ → ℕ = λ row k. form.value (get_or row k d) in

@@ -1,4 +1,4 @@
--- Sums over two rows in eight lanes: what the lanes hold of the pairs so far.
+-- Sums over two rows in eight lanes: the partial sums in the lanes after some of the pairs.
 use Rattle.std.proofs.Common.{ℕ, ◌≡◌, ◌+◌, ◌-◌, ◌*◌, ◌^◌, ◌/◌, ◌%◌, ◌<◌, ◌≤◌, List, [], ◌∷◌, length, take, drop, replicate}
 use Rattle.std.proofs.Common.{refl, ap, ◌∙◌, arith, mul-suc, zero-add, Fits, get_or}
 use mir.Syntax.{Width}
@@ -10,7 +10,7 @@ use Rattle.std.proofs.lemmas.Simd.{below_from_Fits, chunk-fits, fold-sum, length
 use Rattle.std.proofs.Math.Nat.{add-sub_cancel_left, mod-eq_of_lt, mul-le-mul, mul_assoc, mul_comm}
 use Rattle.v_frame_raster.proofs.SumsOfPairs.{sum_of_lanes, sum_of_pairs-split, SumsUpTo}
 
--- lanes with room for what is added to them do not wrap
+-- Lanes that are wide enough for the addends do not wrap.
 added : (most more size : ℕ) → most + more < size → (xs ys : List ℕ) → length xs ≡ length ys
     → Each1 (λ x. x ≤ most) xs → Each1 (λ y. y ≤ more) ys
     → let lanes = zip2 (λ x y. (x + y) % size) xs ys in
@@ -31,7 +31,8 @@ each_at_most f size most each (x ∷ xs) (y ∷ ys) small small1 =
     (each x y small.0 small1.0, each_at_most f size most each xs ys small.1 small1.1)
 each_at_most f size most each xs ys small small1 = tt
 
--- the first eights are summed, of which a pair adds at most so much: with the pairs that are left this is the whole
+-- The first groups of eight are summed, and a pair adds at most `most`. Together with the remaining pairs, this is
+-- the whole sum.
 abbrev pub LanesHold : (ℕ → ℕ → ℕ) → ℕ → List ℕ → List ℕ → ℕ → List ℕ → Type 0
 LanesHold f most a b k lanes =
     (length lanes ≡ 8) × Each1 (λ x. x ≤ most * k) lanes
@@ -40,11 +41,11 @@ LanesHold f most a b k lanes =
 pub lanes_hold-none : (f : ℕ → ℕ → ℕ) (most : ℕ) (a b : List ℕ) → LanesHold f most a b 0 (replicate 8 0)
 lanes_hold-none f most a b = (refl, Each1-replicate (λ x. x ≤ most * 0) 8 0 (omega arith), zero-add _)
 
--- rows of the width w, of which a pair adds at most so much, in lanes of the width v
+-- Rows of pixels of the width w, of which a pair adds at most `most`, in lanes of the width v.
 module _ (w v : Width) (f : ℕ → ℕ → ℕ) (most : ℕ) (each : (x y : ℕ) → x < 2 ^ bits w → y < 2 ^ bits w → f x y ≤ most)
     (a b : List ℕ) (same : length a ≡ length b) (held : length a ≤ 65536) (room : most * 65536 < 2 ^ bits v)
     (narrow : most ≤ 2 ^ 64) (fits : (k : ℕ) → Fits w (get_or a k 0)) (fits1 : (k : ℕ) → Fits w (get_or b k 0)) where
-  -- the step of a loop that adds the eight of number k, which it takes as slices of both rows
+  -- One step of a loop that adds group k of eight pixels, which it takes as slices of both rows.
   pub lanes_hold-more : (k : ℕ) (lanes eight : List ℕ) → k < length a / 8
       → eight ≡ zip2 f (take 8 (take (8 * k + 8 - 8 * k) (drop (8 * k) a)))
       (take 8 (take (8 * k + 8 - 8 * k) (drop (8 * k) b)))
@@ -81,7 +82,7 @@ module _ (w v : Width) (f : ℕ → ℕ → ℕ) (most : ℕ) (each : (x y : ℕ
         rw at_next (omega (arith, next.2, sum, split, holds.2)),
       )
 
-  -- no addition of these lanes leaves the width, and what they add up to goes on from pair to pair
+  -- No sum of these lanes exceeds their width, and the total continues from pair to pair.
   pub lanes-add_up : (k : ℕ) (lanes : List ℕ) → k ≤ length a / 8 → LanesHold f most a b k lanes
       → Steps (λ sum x. Fits v (sum + x)) (λ sum x. sum + x) 0 lanes
       × SumsUpTo (λ p. f p.0 p.1) (8 * k) a b (fold_l (λ sum x. sum + x) 0 lanes)

@@ -1,4 +1,4 @@
--- A value is the sum of its bytes, each times the weight of its place.
+-- A value is the sum of its bytes, each times its weight.
 use Rattle.std.proofs.Common.{ℕ, zero, suc, ◌≡◌, ◌+◌, ◌*◌, ◌/◌, ◌%◌, ◌^◌, ◌<◌, length, refl, ap, arith, add-one}
 use Rattle.std.proofs.Common.{add-zero, zero-add}
 use Rattle.std.proofs.Math.Nat.{pow-suc, div-div-eq-div-mul, div-eq_of_lt}
@@ -8,7 +8,7 @@ pub length-bytes_from : (i n value : ℕ) → length (bytes_from i n value) ≡ 
 length-bytes_from i zero value = refl
 length-bytes_from i (suc n) value = ap suc (length-bytes_from (i + 1) n value)
 
--- n bytes from byte i on are what lies between the weights of byte i and byte i + n
+-- The weighted sum of n bytes from byte i on is the part of the value between the weights of byte i and byte i + n.
 value_from-bytes_from : (i n value : ℕ)
     → value_from i (bytes_from i n value) + 256 ^ (i + n) * (value / 256 ^ (i + n)) ≡ 256 ^ i * (value / 256 ^ i)
 value_from-bytes_from i zero value = rw (add-zero i) (omega arith)

@@ -1,4 +1,5 @@
--- Where the plan of a geometry puts a row: how many entries lie in front of it, and that it lies in the buffer.
+-- The position of a row in the plan of a geometry: the number of entries before it, and the fact that it lies in the
+-- buffer.
 use Rattle.std.proofs.Common.{ℕ, zero, suc, ◌≡◌, ◌+◌, ◌-◌, ◌*◌, ◌<◌, ◌≤◌, min, List, [], ◌∷◌, ◌++◌, ap, arith}
 use Rattle.std.proofs.Common.{append_assoc, zero-add, suc-add}
 use Rattle.std.proofs.Math.Nat.{mul-le-mul_left, mul-le-mul_right}
@@ -6,7 +7,7 @@ use Rattle.v_frame_raster.specs.Geometry.{Geometry, stride_of, alloc_size_of, Pi
 use Rattle.v_frame_raster.specs.Geometry.{outer_row, crossing_row, cutting_plan, IsGeometry, entries_in_front}
 use Rattle.v_frame_raster.specs.Geometry.{origin_of, place_of, usize_max}
 
--- the entries of all pieces
+-- The number of entries of all pieces.
 abbrev pub total : List Piece → ℕ
 total [] = 0
 total (piece ∷ plan) = piece.entries + total plan
@@ -23,11 +24,11 @@ pub total-times : (n : ℕ) (p : List Piece) → total (times n p) ≡ n * total
 total-times zero p = omega arith
 total-times (suc n) p = omega (arith, total-append p (times n p), total-times n p)
 
--- the plan covers the buffer
+-- The plan covers the buffer.
 pub total-cutting_plan : (g : Geometry) → total (cutting_plan g) ≡ alloc_size_of g
 total-cutting_plan g = simp (total-append, total-times) (omega arith)
 
--- what is in front of the y-th visible piece, and after it
+-- The pieces before the y-th visible piece, and the pieces after it.
 abbrev pub before_row : Geometry → ℕ → List Piece
 before_row g y = times g.pad_top (outer_row g) ++ (times y (crossing_row g) ++ border_piece g.pad_left ∷ [])
 
@@ -42,7 +43,7 @@ plan_at_row g y h =
     let split = rw e at (times-add y (suc (g.height - suc y)) (crossing_row g)) in
     rw split (simp append_assoc)
 
--- the place where the y-th visible row begins
+-- The index at which the y-th visible row begins.
 unfoldable pub row_start : Geometry → ℕ → ℕ
 row_start g y = g.pad_top * stride_of g + (y * stride_of g + g.pad_left)
 
@@ -60,7 +61,7 @@ front_of_outer : (g : Geometry) (n : ℕ) (rest : List Piece)
 front_of_outer g zero rest = omega arith
 front_of_outer g (suc n) rest = omega (arith, front_of_outer g n rest)
 
--- the place of the pixel (0, 0), which a plane has, since it has a row
+-- The index of the pixel (0, 0). It exists because a plane has a row.
 origin_is : (g : Geometry) → 0 < g.height → origin_of g ≡ g.pad_top * stride_of g + g.pad_left
 origin_is g h =
     let rest = times g.pad_bottom (outer_row g) in
@@ -80,21 +81,21 @@ row_within g y h =
     let above : g.pad_top + y + 1 ≤ g.height + g.pad_top + g.pad_bottom = omega arith in
     omega (arith, mul-le-mul_right (stride_of g) above)
 
--- the rectangle is no larger than the buffer
+-- The visible rectangle is not larger than the buffer.
 pub visible_within : (g : Geometry) → g.width * g.height ≤ alloc_size_of g
 visible_within g =
     let wide : g.width ≤ stride_of g = omega arith in
     let high : g.height ≤ g.height + g.pad_top + g.pad_bottom = omega arith in
     omega (arith, mul-le-mul_right g.height wide, mul-le-mul_right (stride_of g) high)
 
--- the row that the code finds lies in the buffer
+-- The row that the code computes lies in the buffer.
 pub row_start_within : (g : Geometry) (origin stride y : ℕ) → origin ≡ origin_of g → stride ≡ stride_of g → y < g.height
     → origin + stride * y + g.width ≤ alloc_size_of g
 row_start_within g origin stride y o s h =
     let high : 0 < g.height = omega arith in
     omega (arith, place_of_row g y high, row_within g y h, ap (λ k. k * y) s)
 
--- column 0 of a row above the end of the buffer's last row has an index in the buffer, as the code computes it
+-- Column 0 of a row in the buffer has an index in the buffer, and the code computes this index.
 pub row_in_buffer : (g : Geometry) (origin stride y : ℕ) → origin ≡ origin_of g → stride ≡ stride_of g → IsGeometry g
     → y < g.height + g.pad_bottom → (origin + stride * y ≡ place_of g 0 y) × (origin + stride * y < alloc_size_of g)
 row_in_buffer g origin stride y o s is h =
@@ -103,24 +104,24 @@ row_in_buffer g origin stride y o s is h =
     let step = ap (λ k. k * y) s in
     (omega (arith, o, step), omega (arith, o, step, origin_is g is.high, mul-le-mul_right (stride_of g) above, is.wide))
 
--- column 0 of a row below has no index in the buffer
+-- Column 0 of a row below the buffer has no index in the buffer.
 pub no_row_in_buffer : (g : Geometry) (y : ℕ) → IsGeometry g → g.height + g.pad_bottom ≤ y
     → alloc_size_of g ≤ place_of g 0 y
 no_row_in_buffer g y is h =
     let below : g.height + g.pad_top + g.pad_bottom ≤ g.pad_top + y = omega arith in
     omega (arith, origin_is g is.high, mul-le-mul_right (stride_of g) below)
 
--- the origin lies in front of the first row, which lies in the buffer
+-- The origin lies before the first row, which lies in the buffer.
 pub origin_within : (g : Geometry) → 0 < g.height → origin_of g + g.width ≤ alloc_size_of g
 origin_within g h = omega (arith, place_of_row g 0 h, row_within g 0 h)
 
--- the same, as the code computes it
+-- The origin, as the code computes it.
 pub origin_by_stride : (g : Geometry) (stride : ℕ) → stride ≡ stride_of g → IsGeometry g
     → (stride * g.pad_top + g.pad_left ≡ origin_of g) × (origin_of g < alloc_size_of g)
 origin_by_stride g stride e is =
     (omega (arith, origin_is g is.high, ap (λ s. s * g.pad_top) e), omega (arith, origin_within g is.high, is.wide))
 
--- a number of entries, of rows and then of all, that was cut to what can be counted
+-- The number of rows and the number of entries, if they are saturated.
 pub counted_size : (height top bottom stride : ℕ) → 0 < stride
     → let rows = min (min (height + top) usize_max + bottom) usize_max in
     min (rows * stride) usize_max ≡ min ((height + top + bottom) * stride) usize_max

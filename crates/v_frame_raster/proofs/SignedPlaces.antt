@@ -1,4 +1,4 @@
--- Columns and rows that are counted from the first visible pixel, and so may be negative.
+-- Columns and rows that are counted from the first visible pixel, and may therefore be negative.
 use Rattle.std.proofs.Common.{ℕ, ℤ, pos, negsuc, ◌≡◌, ◌+◌, ◌*◌, ◌<◌, ◌≤◌, ◌≤ℤ◌, Option, Some, None, SomeIff, FitsSigned, to_z, of_z, w64, arith}
 use Rattle.std.specs.Prelude.{unsigned_abs}
 use Rattle.std.specs.Int.{FitsUnsigned}
@@ -10,11 +10,11 @@ use Rattle.v_frame_raster.specs.Geometry.{Fits, IsGeometry, IsInBuffer}
 fits_within : (z : ℤ) → pos 0 ≤ℤ z → unsigned_abs z ≤ usize_max → FitsUnsigned w64 z
 fits_within z from small = (from, omega (arith, ints, from, small))
 
--- a signed number that the code reads is the number
+-- The code reads a signed number without changing it.
 pub as_it_is : (z : ℤ) → FitsSigned w64 z → to_z w64 (of_z w64 z) ≡ z
 as_it_is z fits = omega (arith, ints)
 
--- those of a rectangle in the buffer are numbers of the type
+-- The columns and rows of a rectangle in the buffer fit into their type.
 pub column_fits : (g : Geometry) (x y : ℤ) (width height : ℕ) → IsGeometry g → IsInBuffer g x y width height
     → FitsUnsigned w64 (buffer_column g x)
 column_fits g x y width height is inside =
@@ -27,7 +27,7 @@ row_fits g x y width height is fits inside =
     fits_within (buffer_row g y) inside.above
     (omega (arith, inside.inside.down, mul-le-mul_left (alloc_height_of g) some, fits))
 
--- what is there under one condition is there under another that follows from it and that it follows from
+-- An option that is `Some` under one condition is `Some` under each equivalent condition.
 pub some_if : {X P Q : Type 0} (found : Option X) (value : X) → (P → Q) → (Q → P) → SomeIff found P value
     → SomeIff found Q value
 some_if None value to from none = λ q. none (from q)

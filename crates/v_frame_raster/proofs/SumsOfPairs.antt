@@ -1,4 +1,4 @@
--- Sums over the pairs of two lists, in pieces, and of two tables, one row after the other.
+-- Sums over the pairs of two lists in pieces, and over two tables, one row after another.
 use Rattle.std.proofs.Common.{ℕ, zero, suc, ◌≡◌, ◌+◌, ◌-◌, ◌*◌, ◌^◌, ◌<◌, ◌≤◌, List, [], ◌∷◌, ◌++◌, length, take, drop}
 use Rattle.std.proofs.Common.{get_or, mul-suc, refl, arith, Fits, Some, slice_get}
 use mir.Syntax.{Width}
@@ -20,7 +20,7 @@ no_pairs Y [] = refl
 no_pairs Y (x ∷ xs) = refl
 
 module _ {X Y : Type 0} (of : X × Y → ℕ) where
-  -- a sum over pairs is that of the first n of them, and that of those they leave
+  -- A sum over pairs is the sum over the first n pairs plus the sum over the rest.
   pub sum_of_pairs-split : (n : ℕ) (xs : List X) (ys : List Y)
       → sum_by of (zip xs ys) ≡ sum_by of (zip (take n xs) (take n ys)) + sum_by of (zip (drop n xs) (drop n ys))
   sum_of_pairs-split zero xs ys = omega arith
@@ -34,13 +34,13 @@ module _ {X Y : Type 0} (of : X × Y → ℕ) where
         sum_by-cons of (x, y) (zip (take n xs) (take n ys)),
       )
 
-  -- the pairs up to a place are summed: with those that are left this is the whole, and each pair added less than
-  -- 2 ^ 64
+  -- The pairs up to an index are summed. Together with the remaining pairs, this is the whole sum. Each pair added
+  -- less than 2 ^ 64.
   abbrev pub SumsUpTo : ℕ → List X → List Y → ℕ → Type 0
   SumsUpTo at xs ys so_far =
       (so_far + sum_by of (zip (drop at xs) (drop at ys)) ≡ sum_by of (zip xs ys)) × (so_far ≤ 2 ^ 64 * at)
 
-  -- a loop over two lists in pieces of n, one step on from the piece of number k
+  -- One step of a loop over two lists in pieces of n, from piece k on.
   pub sums_up_to-piece_more : (n k so_far piece : ℕ) (xs : List X) (ys : List Y) → 0 < n → piece < 2 ^ 64
       → piece ≡ sum_by of (zip (take n (take (length xs - n * k) (drop (n * k) xs)))
       (take n (take (length ys - n * k) (drop (n * k) ys))))
@@ -52,7 +52,7 @@ module _ {X Y : Type 0} (of : X × Y → ℕ) where
       let here = rw (take_rest xs at, take_rest ys at) at is in
       rw next (omega (arith, split, here, invariant.0), omega (arith, some, small, invariant.1))
 
-  -- a sum over pairs of lists that are joined, the first two of one length
+  -- The sum over the pairs of joined lists, of which the first two have equal lengths.
   sum_of_pairs-append : (xs xs1 : List X) (ys ys1 : List Y) → length xs ≡ length ys
       → sum_by of (zip (xs ++ xs1) (ys ++ ys1)) ≡ sum_by of (zip xs ys) + sum_by of (zip xs1 ys1)
   sum_of_pairs-append [] xs1 [] ys1 same = omega arith
@@ -67,7 +67,7 @@ row_and_rest table y row is =
     rw (drop_more table y row (slice_get_within table y row is), get_or_from_slice_get table y row row is)
 
 module _ {T : Type 0} (of : T × T → ℕ) where
-  -- sums over two tables are made of those over their rows
+  -- The sum over two tables is the total of the sums over their rows.
   pub sum_of_pairs-adds_up : AddsUp (λ xs ys. sum_by of (zip xs ys))
   sum_of_pairs-adds_up = record {
     joined = λ a b a1 b1 same. sum_of_pairs-append of a a1 b b1 same;
@@ -75,13 +75,13 @@ module _ {T : Type 0} (of : T × T → ℕ) where
         rw (row_and_rest table y row is, row_and_rest other y row1 is1) (sum_of_pairs-append of row _ row1 _ same);
   }
 
--- the sum of lanes that are made of two vectors
+-- The sum of lanes that are computed from two vectors.
 pub sum_of_lanes : {X Y : Type 0} (f : X → Y → ℕ) (xs : List X) (ys : List Y)
     → sum_l (zip2 f xs ys) ≡ sum_by (λ p. f p.0 p.1) (zip xs ys)
 sum_of_lanes f (x ∷ xs) (y ∷ ys) = omega (arith, sum_of_lanes f xs ys, sum_by-cons (λ p. f p.0 p.1) (x, y) (zip xs ys))
 sum_of_lanes f xs ys = refl
 
--- a sum over pairs of values below a size, of which each pair adds at most so much
+-- The sum over pairs of values below a size, if each pair adds at most `most`.
 pub sum_of_pairs-at_most : (f : ℕ → ℕ → ℕ) (size most : ℕ) → ((x y : ℕ) → x < size → y < size → f x y ≤ most)
     → (xs ys : List ℕ)
     → Each1 (λ x. x < size) xs → Each1 (λ y. y < size) ys → sum_by (λ p. f p.0 p.1) (zip xs ys) ≤ most * length xs
@@ -91,7 +91,7 @@ sum_of_pairs-at_most f size most each (x ∷ xs) (y ∷ ys) small small1 =
     omega (arith, long, rest, each x y small.0 small1.0, sum_by-cons (λ p. f p.0 p.1) (x, y) (zip xs ys))
 sum_of_pairs-at_most f size most each xs ys small small1 = omega arith
 
--- sums over pairs of values of up to 16 bits
+-- Sums over pairs of values of up to 16 bits.
 module _ (w : Width) (narrow : 2 ^ bits w ≤ 65536) (xs ys : List ℕ) (fits : (k : ℕ) → Fits w (get_or xs k 0))
     (fits1 : (k : ℕ) → Fits w (get_or ys k 0)) where
   at_most : (f : ℕ → ℕ → ℕ) (most : ℕ) → ((x y : ℕ) → x < 2 ^ bits w → y < 2 ^ bits w → f x y ≤ most)

@@ -1,4 +1,4 @@
--- Lists, tables of rows and their bytes, and the buffers of planes: the tables that they show, and their borders.
+-- Lists, tables of rows and their bytes, and the buffers of planes with their tables and their borders.
 pub mod BytesBack
 pub mod CutRows
 pub mod Determined

@@ -1,18 +1,20 @@
--- Laws of places and of what planes show, each the contract of a function of a module `laws`.
+-- Laws of pixel positions and of the tables of planes. Each is the contract of a function of a
+-- module `laws`.
 use Rattle.std.specs.Prelude.{ℕ, ◌≡◌, ◌+◌, ◌*◌, ◌<◌, ◌≤◌, length, take, drop, Some, None, slice_get}
 use Rattle.v_frame_raster.specs.Geometry.{Geometry, stride_of, alloc_height_of, alloc_size_of, Mark, Border, Visible}
 use Rattle.v_frame_raster.specs.Geometry.{cutting_plan, mark_at, place_of}
 use Rattle.v_frame_raster.specs.Raster.{Raster, table_of, border_of, whole_rows}
 use Rattle.v_frame_raster.specs.Table.{pixel_at, rectangle}
 
--- geometry, table and border together determine a buffer of the size that the geometry lays down
+-- The geometry, the table and the border together determine the buffer, if it has the size that the
+-- geometry specifies.
 abbrev pub DeterminesBuffer : Type 0 → Type 0
 DeterminesBuffer T =
     (p q : Raster T) → length p.buffer ≡ alloc_size_of p.geometry → length q.buffer
     ≡ alloc_size_of q.geometry
     → p.geometry ≡ q.geometry → table_of p ≡ table_of q → border_of p ≡ border_of q → p ≡ q
 
--- each visible pixel has a place of its own, in the buffer and in no border piece
+-- Each visible pixel has its own index in the buffer, which lies in no border piece.
 pub record HasPlaces (g : Geometry) : Type 0 where
   pub within : (x y : ℕ) → x < g.width → y < g.height → place_of g x y < alloc_size_of g
   pub visible : (x y : ℕ) → x < g.width → y < g.height → mark_at (cutting_plan g) (place_of g x y)
@@ -20,8 +22,8 @@ pub record HasPlaces (g : Geometry) : Type 0 where
   pub apart : (x y x' y' : ℕ) → x < g.width → y < g.height → x' < g.width → y' < g.height
       → place_of g x y ≡ place_of g x' y' → (x ≡ x') × (y ≡ y')
 
--- the mark of the place in each row and column of the buffer: border above, below and on both sides
--- of what is visible. Past the end of the buffer there is none
+-- The mark of each index, given by row and column of the buffer: border above, below, to the left
+-- and to the right of the visible rectangle. An index past the end of the buffer has no mark.
 pub record HasMarks (g : Geometry) : Type 0 where
   pub above : (row column : ℕ) → row < g.pad_top → column < stride_of g
       → mark_at (cutting_plan g) (row * stride_of g + column) ≡ Some Border
@@ -36,14 +38,14 @@ pub record HasMarks (g : Geometry) : Type 0 where
   pub past : (place : ℕ) → alloc_size_of g ≤ place → mark_at (cutting_plan g) place ≡ None
 
 module _ {T : Type 0} where
-  -- the entry at the place of each visible pixel is that pixel
+  -- The entry at the index of each visible pixel is this pixel.
   abbrev pub HoldsPixels : Raster T → Type 0
   HoldsPixels p =
       (x y : ℕ) → x < p.geometry.width → y < p.geometry.height
       → slice_get p.buffer (place_of p.geometry x y) ≡ pixel_at (table_of p) x y
 
-  -- each row of the table is the part of the buffer that begins after the rows above it and what
-  -- is to its left
+  -- Each row of the table is the part of the buffer that begins after the rows above it and the
+  -- left padding.
   abbrev pub HoldsRows : Raster T → Type 0
   HoldsRows p =
       (y : ℕ) → y < p.geometry.height
@@ -51,20 +53,20 @@ module _ {T : Type 0} where
       ≡ Some (take p.geometry.width
       (drop ((p.geometry.pad_top + y) * stride_of p.geometry + p.geometry.pad_left) p.buffer))
 
-  -- what a plane shows is a rectangle of the rows of its whole buffer
+  -- The table of a plane is a rectangle of the rows of its whole buffer.
   abbrev pub ShowsRectangle : Raster T → Type 0
   ShowsRectangle p =
       table_of p ≡ rectangle p.geometry.pad_left p.geometry.pad_top p.geometry.width
       p.geometry.height (whole_rows p)
 
-  -- two planes hold the same entry at each place of a mark
+  -- The two planes hold equal entries at each index with this mark.
   abbrev pub AgreeAt : Mark → Raster T → Raster T → Type 0
   AgreeAt mark p q =
       (place : ℕ) → mark_at (cutting_plan p.geometry) place ≡ Some mark → slice_get p.buffer place
       ≡ slice_get q.buffer place
 
-  -- planes that hold the same at each visible place show the same, and those that do at each border
-  -- place have one border
+  -- Planes with equal entries at all visible indices have equal tables. Planes with equal entries
+  -- at all border indices have equal borders.
   pub record IsMadeOfEntries (p q : Raster T) : Type 0 where
     pub table : AgreeAt Visible p q → table_of p ≡ table_of q
     pub border : AgreeAt Border p q → border_of p ≡ border_of q

@@ -1,9 +1,9 @@
--- Small rows worked out by hand. Each line computes: it is proved by `refl`.
+-- Small rows with the results computed by hand. Each equation is proved by computation (`refl`).
 use Rattle.std.specs.Prelude.{◌≡◌, [], ◌∷◌, refl}
 use Rattle.v_frame_raster.specs.Pixel.{one_byte, two_bytes}
 use Rattle.v_frame_raster.specs.PixelRows.{absolute_differences, squared_errors, halved}
 
--- differences of 3, 0 and 255
+-- The differences are 3, 0 and 255.
 three_differences : absolute_differences one_byte.value (5 ∷ 7 ∷ 0 ∷ []) (8 ∷ 7 ∷ 255 ∷ []) ≡ 258
 three_differences = refl
 
@@ -16,11 +16,11 @@ largest_square = refl
 no_pixels : absolute_differences one_byte.value [] [] ≡ 0
 no_pixels = refl
 
--- sums of 10, 9 and 1020: a half is rounded upwards, and a quarter downwards
+-- The sums are 10, 9 and 1020. A half is rounded up, and a quarter down.
 three_blocks : halved one_byte (1 ∷ 2 ∷ 1 ∷ 2 ∷ 255 ∷ 255 ∷ []) (3 ∷ 4 ∷ 3 ∷ 3 ∷ 255 ∷ 255 ∷ [])
     ≡ 3 ∷ 2 ∷ 255 ∷ []
 three_blocks = refl
 
--- each pixel is made of its own block alone
+-- Each pixel depends only on its own square of four pixels.
 one_corner : halved two_bytes (0 ∷ 0 ∷ 0 ∷ 4 ∷ []) (0 ∷ 0 ∷ 0 ∷ 0 ∷ []) ≡ 0 ∷ 1 ∷ []
 one_corner = refl

@@ -1,4 +1,4 @@
-//! Chroma subsampling: how often chroma is sampled beside luma.
+//! Chroma subsampling: the ratio of luma samples to chroma samples in each direction.
 
 ghost use Rattle.std.specs.Prelude.{◌≡◌, is_some, option_map};
 ghost use Rattle.std.specs.Int.NonZero.{non_zero_u8_get};
@@ -6,21 +6,21 @@ ghost use Rattle.v_frame_raster.specs.Chroma.{ratio_of, chroma_size_of};
 
 use std::num::NonZeroU8;
 
-/// The format of a frame: how much smaller its chroma planes are than its luma plane.
+/// The chroma subsampling format of a frame: how much smaller the chroma planes are than the luma plane.
 ///
 /// Ports `ChromaSubsampling` of `v_frame` 0.7.0, which has no [`Yuv411`](Self::Yuv411).
 #[derive(Debug, Clone, Copy, PartialEq, Eq)]
 pub enum ChromaSubsampling {
-    /// Chroma at half the width and half the height of luma.
+    /// Chroma has half the width and half the height of luma.
     Yuv420,
-    /// Chroma at half the width of luma.
+    /// Chroma has half the width and the full height of luma.
     Yuv422,
-    /// Chroma at the size of luma.
+    /// Chroma has the size of luma.
     Yuv444,
-    /// Luma alone.
+    /// The frame has only luma.
     Monochrome,
-    /// Chroma at a quarter of the width of luma, as in DV video. `v_frame` 0.7.0 has no such variant, so it comes last:
-    /// the other variants keep their numbers.
+    /// Chroma has a quarter of the width and the full height of luma, as in DV video. `v_frame` 0.7.0 has no such variant. It
+    /// comes last so that the other variants keep their discriminants.
     Yuv411,
 }
 
@@ -34,8 +34,9 @@ impl ChromaSubsampling {
         *self != ChromaSubsampling::Monochrome
     }
 
-    /// Returns the width and the height of the chroma planes beside a luma plane of this size, in pixels. `None` where there
-    /// are no chroma planes, or where the luma size doesn't divide.
+    /// Returns the width and the height of each chroma plane, in pixels, for a luma plane of `luma_width` by `luma_height`
+    /// pixels. Returns `None` if the format has no chroma planes, or if the luma size is not divisible by the subsampling
+    /// ratio.
     ///
     /// Ports `ChromaSubsampling::chroma_dimensions` of `v_frame` 0.7.0.
     pub fn chroma_dimensions(&self, luma_width: usize, luma_height: usize) -> Option<(usize, usize)>
@@ -50,7 +51,8 @@ impl ChromaSubsampling {
         Some((luma_width / x, luma_height / y))
     }
 
-    /// Returns how many luma columns there are for one chroma column, and how many luma rows for one chroma row.
+    /// Returns the number of luma columns for each chroma column, and the number of luma rows for each chroma row. Returns
+    /// `None` if the format has no chroma planes.
     ///
     /// Ports `ChromaSubsampling::subsample_ratio` of `v_frame` 0.7.0.
     pub fn subsample_ratio(&self) -> Option<(NonZeroU8, NonZeroU8)>

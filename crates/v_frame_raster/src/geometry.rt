@@ -1,17 +1,17 @@
-//! Geometry: where the visible rectangle of a plane lies in its buffer.
+//! Geometry: the position and size of the visible rectangle of a plane inside its buffer.
 ghost use Rattle.std.specs.Prelude.{◌≡◌, ◌+◌, ◌*◌, ◌<◌, ◌≤◌, IfSome, IsTrue, SomeIff};
 ghost use Rattle.v_frame_raster.specs.Geometry.{stride_of, alloc_height_of, alloc_size_of, IsGeometry, IsInside, Fits, usize_max, origin_of, region_geometry, whole_geometry, buffer_region, IsInBuffer};
 
 use crate::chroma::ChromaSubsampling;
 use std::marker::Model;
 
-/// A size or a padding doesn't divide by the ratio of a format.
+/// The error of a geometry whose sizes and paddings are not all divisible by the subsampling ratio of a format.
 ///
 /// Ports `SubsamplingError` of `v_frame` 0.7.0.
 #[derive(Debug, Clone, Copy, PartialEq, Eq)]
 pub struct SubsamplingError;
 
-/// The layout of a plane: its visible size, the paddings around it, and how often it is sampled beside luma.
+/// The layout of a plane: its visible size, the padding on each side, and its subsampling ratios relative to luma.
 ///
 /// Sizes, paddings and the stride are in pixels. Ports `PlaneGeometry` of `v_frame` 0.7.0.
 #[derive(Debug, Clone, Copy, PartialEq, Eq)]
@@ -60,8 +60,8 @@ impl PlaneGeometry {
     ghost use Rattle.v_frame_raster.specs.Geometry.{geometry_of};
     ghost use Rattle.v_frame_raster.specs.Chroma.{is_divisible, divided_geometry, subsampled};
 
-    /// Returns the geometry of these numbers. `None` where the width, the height or a ratio is zero, or where
-    /// `width + pad_left + pad_right` is above `usize::MAX`.
+    /// Returns the geometry with the given visible size, paddings and subsampling ratios, all in pixels. Returns `None` if the
+    /// width, the height or a ratio is zero, or if `width + pad_left + pad_right` is above `usize::MAX`.
     ///
     /// Ports `PlaneGeometry::new` of `v_frame` 0.7.0.
     pub fn new(
@@ -94,7 +94,7 @@ impl PlaneGeometry {
         })
     }
 
-    /// Returns the geometry of a plane without a border.
+    /// Returns the geometry of a plane without a border. Returns `None` if the width, the height or a ratio is zero.
     ///
     /// Ports `PlaneGeometry::unpadded` of `v_frame` 0.7.0.
     pub fn unpadded(
@@ -109,7 +109,7 @@ impl PlaneGeometry {
         Self::new(width, height, 0, 0, 0, 0, subsampling_x, subsampling_y)
     }
 
-    /// Returns the visible width, never zero.
+    /// Returns the visible width in pixels. It is never zero.
     pub fn width(&self) -> usize
         ensures value { result ≡ self.now.width }
         ensures valid { IsGeometry self.now }
@@ -117,7 +117,7 @@ impl PlaneGeometry {
         self.width
     }
 
-    /// Returns the visible height, never zero.
+    /// Returns the visible height in pixels. It is never zero.
     pub fn height(&self) -> usize
         ensures value { result ≡ self.now.height }
         ensures valid { IsGeometry self.now }
@@ -125,63 +125,64 @@ impl PlaneGeometry {
         self.height
     }
 
-    /// Pixels from the start of one row of the buffer to the start of the next.
+    /// Returns the number of pixels from the start of one row of the buffer to the start of the next.
     pub fn stride(&self) -> usize
         ensures { result ≡ stride_of self.now }
     {
         self.stride
     }
 
-    /// Border pixels to the left of each visible row.
+    /// Returns the number of border pixels to the left of each visible row.
     pub fn pad_left(&self) -> usize
         ensures { result ≡ self.now.pad_left }
     {
         self.pad_left
     }
 
-    /// Border pixels to the right of each visible row.
+    /// Returns the number of border pixels to the right of each visible row.
     pub fn pad_right(&self) -> usize
         ensures { result ≡ self.now.pad_right }
     {
         self.pad_right
     }
 
-    /// Border rows above the visible ones.
+    /// Returns the number of border rows above the visible rows.
     pub fn pad_top(&self) -> usize
         ensures { result ≡ self.now.pad_top }
     {
         self.pad_top
     }
 
-    /// Border rows below the visible ones.
+    /// Returns the number of border rows below the visible rows.
     pub fn pad_bottom(&self) -> usize
         ensures { result ≡ self.now.pad_bottom }
     {
         self.pad_bottom
     }
 
-    /// Returns the horizontal ratio: how many luma columns there are for one column of the plane.
+    /// Returns the horizontal subsampling ratio: the number of luma columns for each column of the plane.
     pub fn subsampling_x(&self) -> u8
         ensures { result ≡ self.now.subsampling_x }
     {
         self.subsampling_x
     }
 
-    /// Returns the vertical ratio: how many luma rows there are for one row of the plane.
+    /// Returns the vertical subsampling ratio: the number of luma rows for each row of the plane.
     pub fn subsampling_y(&self) -> u8
         ensures { result ≡ self.now.subsampling_y }
     {
         self.subsampling_y
     }
 
-    /// Returns the number of pixels in the buffer, where a buffer can be that large: at most 4611686018427387903.
+    /// Returns the number of pixels in the buffer, or `None` if it is above 4611686018427387903, the size of the largest
+    /// buffer.
     ///
-    /// `Some` is what [`data_origin`](Self::data_origin), [`alloc_height`](Self::alloc_height) and
-    /// [`alloc_size`](Self::alloc_size) require. Our own.
+    /// [`data_origin`](Self::data_origin), [`alloc_height`](Self::alloc_height) and [`alloc_size`](Self::alloc_size) require
+    /// that it is `Some`. Not part of `v_frame` 0.7.0.
     pub fn checked_alloc_size(&self) -> Option<usize>
         ensures { SomeIff result (Fits self.now) (alloc_size_of self.now) }
     {
-        // What is too large to be counted stays too large.
+        // A saturated sum or product is above the limit too.
         let rows = self
             .height
             .saturating_add(self.pad_top)
@@ -190,7 +191,8 @@ impl PlaneGeometry {
         (size <= isize::MAX as usize / 2).then_some(size)
     }
 
-    /// Returns the number of rows in the buffer. [`checked_alloc_size`](Self::checked_alloc_size) must be `Some`.
+    /// Returns the number of rows in the buffer, including the border. [`checked_alloc_size`](Self::checked_alloc_size) must be
+    /// `Some`.
     pub fn alloc_height(&self) -> usize
         requires { Fits self.now }
         ensures { result ≡ alloc_height_of self.now }
@@ -198,7 +200,8 @@ impl PlaneGeometry {
         self.height + self.pad_top + self.pad_bottom
     }
 
-    /// Returns the number of pixels in the buffer. [`checked_alloc_size`](Self::checked_alloc_size) must be `Some`.
+    /// Returns the number of pixels in the buffer, including the border. [`checked_alloc_size`](Self::checked_alloc_size) must
+    /// be `Some`.
     pub fn alloc_size(&self) -> usize
         requires { Fits self.now }
         ensures { result ≡ alloc_size_of self.now }
@@ -215,18 +218,18 @@ impl PlaneGeometry {
         self.stride * self.pad_top + self.pad_left
     }
 
-    /// Returns the geometry of a rectangle of the visible pixels in the same buffer: everything around it is border. The
-    /// rectangle begins at column `x` of row `y`, and the ratios stay.
+    /// Returns the geometry of a rectangle of the visible pixels in the same buffer. The rectangle begins at column `x` of row
+    /// `y`. Everything around it becomes border, and the subsampling ratios are unchanged.
     ///
-    /// `None` exactly where the rectangle is empty or not inside the visible one.
-    /// [`checked_alloc_size`](Self::checked_alloc_size) must be `Some`. Our own.
+    /// Returns `None` if the rectangle is empty or does not lie inside the visible one.
+    /// [`checked_alloc_size`](Self::checked_alloc_size) must be `Some`. Not part of `v_frame` 0.7.0.
     pub fn region(&self, x: usize, y: usize, width: usize, height: usize) -> Option<Self>
         requires { Fits self.now }
         ensures value { SomeIff result (IsInside self.now x y width height)
             (region_geometry self.now x y width height) }
         ensures size { IfSome result (λ region. alloc_size_of region ≡ alloc_size_of self.now) }
     {
-        // No buffer is so large that a sum past `usize::MAX` could be inside it.
+        // No buffer is so large that a saturated sum could lie inside it.
         let right = x.saturating_add(width);
         let bottom = y.saturating_add(height);
         if width == 0 || height == 0 || right > self.width || bottom > self.height {
@@ -235,10 +238,10 @@ impl PlaneGeometry {
         Some(self.visible_region(x, y, width, height))
     }
 
-    /// Returns the geometry that [`region`](Self::region) gives, of a rectangle that is not empty and lies inside the
-    /// visible one.
+    /// Returns the geometry of a rectangle of the visible pixels in the same buffer, as [`region`](Self::region) does. The
+    /// rectangle must not be empty, and must lie inside the visible one.
     ///
-    /// [`checked_alloc_size`](Self::checked_alloc_size) must be `Some`. Our own.
+    /// [`checked_alloc_size`](Self::checked_alloc_size) must be `Some`. Not part of `v_frame` 0.7.0.
     pub fn visible_region(&self, x: usize, y: usize, width: usize, height: usize) -> Self
         requires fits { Fits self.now }
         requires inside { IsInside self.now x y width height }
@@ -258,12 +261,12 @@ impl PlaneGeometry {
         }
     }
 
-    /// Returns the geometry of a rectangle of the same buffer that may reach into the border: everything around it is border.
-    /// It begins at column `x` of row `y`, of which those to the left of the first visible pixel and above it are negative, and
-    /// the ratios stay.
+    /// Returns the geometry of a rectangle in the same buffer, as [`region`](Self::region) does, but the rectangle may extend
+    /// into the border. Column `x` and row `y` are counted from the first visible pixel, so columns to its left and rows above
+    /// it are negative.
     ///
-    /// `None` exactly where the rectangle is empty or not inside the buffer.
-    /// [`checked_alloc_size`](Self::checked_alloc_size) must be `Some`. Our own.
+    /// Returns `None` if the rectangle is empty or does not lie inside the buffer.
+    /// [`checked_alloc_size`](Self::checked_alloc_size) must be `Some`. Not part of `v_frame` 0.7.0.
     pub fn region_with_border(
         &self,
         x: isize,
@@ -281,10 +284,11 @@ impl PlaneGeometry {
         self.whole_buffer().region(left, top, width, height)
     }
 
-    /// Returns the geometry of the whole buffer, as a picture without a border. The ratios stay.
+    /// Returns the geometry of the whole buffer as a picture without a border. The subsampling ratios are unchanged.
     ///
-    /// What reads or writes visible rows then reads or writes all rows of the buffer, those of the border too.
-    /// [`checked_alloc_size`](Self::checked_alloc_size) must be `Some`, and is the same. Our own.
+    /// With this geometry, a call that reads or writes the visible rows reads or writes all rows of the buffer, including the
+    /// border. [`checked_alloc_size`](Self::checked_alloc_size) must be `Some`, and the result has the same buffer size. Not
+    /// part of `v_frame` 0.7.0.
     pub fn whole_buffer(&self) -> Self
         requires { Fits self.now }
         ensures value { result ≡ whole_geometry self.now }
@@ -303,16 +307,17 @@ impl PlaneGeometry {
         }
     }
 
-    /// Returns the geometry of the chroma planes beside a luma plane of this one.
+    /// Returns the geometry of the chroma planes for a luma plane with this geometry.
     ///
-    /// `None` under [`ChromaSubsampling::Monochrome`], and this very geometry under [`ChromaSubsampling::Yuv444`]. Else sizes
-    /// and paddings are divided by the ratios of the format, and the ratios are set to these, whatever they were.
+    /// Returns `None` for [`ChromaSubsampling::Monochrome`], and this geometry itself for [`ChromaSubsampling::Yuv444`]. For
+    /// the other formats, sizes and paddings are divided by the ratios of the format, and the result has these ratios, whatever
+    /// `self` has.
     ///
     /// Ports `PlaneGeometry::for_subsampling` of `v_frame` 0.7.0.
     ///
     /// # Errors
     ///
-    /// [`SubsamplingError`] where one of the six sizes and paddings doesn't divide.
+    /// [`SubsamplingError`] if one of the six sizes and paddings is not divisible by the ratio of the format.
     pub fn for_subsampling(
         self,
         subsampling: ChromaSubsampling,
@@ -330,7 +335,7 @@ impl PlaneGeometry {
             .ok_or(SubsamplingError)
     }
 
-    /// Returns the geometry with its columns divided by one ratio and its rows by the other, where all divide.
+    /// Returns the geometry with its columns divided by `ratio_x` and its rows by `ratio_y`, or `None` if one is not divisible.
     fn divided(self, ratio_x: u8, ratio_y: u8) -> Option<Self>
         requires ratio_x { 0 < ratio_x }
         requires ratio_y { 0 < ratio_y }

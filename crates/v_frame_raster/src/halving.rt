@@ -1,11 +1,11 @@
-//! Rows of half the size, in blocks for which the compiler has packed instructions.
+//! Rows at half the width and height, in blocks for which the compiler emits vector instructions.
 ghost use Rattle.std.specs.Prelude.{◌≡◌, ◌*◌, ◌≤◌, length, take};
 ghost use Rattle.v_frame_raster.specs.Pixel.{one_byte, two_bytes};
 ghost use Rattle.v_frame_raster.specs.PixelRows.{halved, rounded_mean};
 
 use std::simd::{u8x16, u8x32, u16x8, u16x16, u32x8};
 
-/// Returns the rounded mean of four pixels.
+/// Returns the mean of four one-byte pixels, rounded to the nearest integer, halves up.
 #[inline(always)]
 fn mean_of_bytes(a: u8, b: u8, c: u8, d: u8) -> u8
     ensures { result ≡ rounded_mean a b c d }
@@ -13,7 +13,7 @@ fn mean_of_bytes(a: u8, b: u8, c: u8, d: u8) -> u8
     ((u16::from(a) + u16::from(b) + u16::from(c) + u16::from(d) + 2) / 4) as u8
 }
 
-/// Returns the rounded mean of four pixels.
+/// Returns the mean of four two-byte pixels, rounded to the nearest integer, halves up.
 #[inline(always)]
 fn mean_of_words(a: u16, b: u16, c: u16, d: u16) -> u16
     ensures { result ≡ rounded_mean a b c d }
@@ -21,7 +21,7 @@ fn mean_of_words(a: u16, b: u16, c: u16, d: u16) -> u16
     ((u32::from(a) + u32::from(b) + u32::from(c) + u32::from(d) + 2) / 4) as u16
 }
 
-/// Returns the 16 pixels that the first 32 of each row become. A lane holds two neighbours of one row.
+/// Returns the 16 pixels that result from the first 32 pixels of each row. A lane holds two adjacent pixels of one row.
 #[inline(always)]
 fn half_of_bytes(top: &[u8], bottom: &[u8]) -> u8x16
     requires first { 32 ≤ length top.now }
@@ -35,7 +35,7 @@ fn half_of_bytes(top: &[u8], bottom: &[u8]) -> u8x16
     ((sums + u16x16::splat(2)) >> 2).cast::<u8>()
 }
 
-/// Returns the 8 pixels that the first 16 of each row become. A lane holds two neighbours of one row.
+/// Returns the 8 pixels that result from the first 16 pixels of each row. A lane holds two adjacent pixels of one row.
 #[inline(always)]
 fn half_of_words(top: &[u16], bottom: &[u16]) -> u16x8
     requires first { 16 ≤ length top.now }
@@ -49,7 +49,7 @@ fn half_of_words(top: &[u16], bottom: &[u16]) -> u16x8
     ((sums + u32x8::splat(2)) >> 2).cast::<u16>()
 }
 
-/// Halves rows of bytes.
+/// Halves two rows of one-byte pixels into `dst`.
 pub fn halve_bytes(dst: &mut [u8], top: &[u8], bottom: &[u8])
     requires top { length top.now ≡ 2 * length dst.old }
     requires bottom { length bottom.now ≡ 2 * length dst.old }
@@ -60,13 +60,13 @@ pub fn halve_bytes(dst: &mut [u8], top: &[u8], bottom: &[u8])
         let half = half_of_bytes(&top[32 * block..], &bottom[32 * block..]);
         half.copy_to_slice(&mut dst[16 * block..]);
     }
-    // The short rest of the row.
+    // The rest of the row is shorter than a block.
     for i in 16 * blocks..dst.len() {
         dst[i] = mean_of_bytes(top[2 * i], top[2 * i + 1], bottom[2 * i], bottom[2 * i + 1]);
     }
 }
 
-/// Halves rows of wider pixels.
+/// Halves two rows of two-byte pixels into `dst`.
 pub fn halve_words(dst: &mut [u16], top: &[u16], bottom: &[u16])
     requires top { length top.now ≡ 2 * length dst.old }
     requires bottom { length bottom.now ≡ 2 * length dst.old }
@@ -77,7 +77,7 @@ pub fn halve_words(dst: &mut [u16], top: &[u16], bottom: &[u16])
         let half = half_of_words(&top[16 * block..], &bottom[16 * block..]);
         half.copy_to_slice(&mut dst[8 * block..]);
     }
-    // The short rest of the row.
+    // The rest of the row is shorter than a block.
     for i in 8 * blocks..dst.len() {
         dst[i] = mean_of_words(top[2 * i], top[2 * i + 1], bottom[2 * i], bottom[2 * i + 1]);
     }

@@ -1,7 +1,6 @@
-//! Pixels, chroma formats, geometries and tables, the definitions of what a plane shows, and laws of
-//! these.
+//! Pixels, chroma formats, geometries and tables; the definitions of the table that a plane shows; and laws about all of these.
 //!
-//! Users name `v_frame`, which re-exports what they call.
+//! Users import these items from `v_frame`, which re-exports the public ones.
 #![tactic(auto)]
 
 pub mod chroma;

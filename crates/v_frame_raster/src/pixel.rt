@@ -1,4 +1,4 @@
-//! Pixels: what a plane holds.
+//! Pixels: the values that a plane holds.
 ghost use Rattle.std.specs.Prelude.{◌≡◌, ℕ, ◌+◌, ◌/◌, ◌^◌, ◌<◌, ◌≤◌, ◌*◌, ◌↔◌, length, nat_eq, replicate, IsSome, IfSome, refl};
 ghost use Rattle.std.specs.Ordering.{nat_cmp};
 ghost use Rattle.std.proofs.Common.{lit<};
@@ -13,7 +13,7 @@ use std::hash::Hash;
 use std::simd::{u8x16, u16x8};
 
 mod sealed {
-    /// No type outside this crate can be a pixel.
+    /// Prevents types outside this crate from implementing `Pixel`.
     pub trait Sealed {}
 
     impl Sealed for u8 {}
@@ -21,10 +21,10 @@ mod sealed {
     impl Sealed for u16 {}
 }
 
-/// A sample of one plane: `u8` for a bit depth of 8, `u16` for more.
+/// A sample of one plane: `u8` for a bit depth of 8, `u16` for larger bit depths.
 ///
-/// Ports the trait `Pixel` of `v_frame` 0.7.0. Its functions and constants are our own: they take the place of the conversion
-/// traits that the original asks of a pixel, for its casts of bytes, and for `size_of`.
+/// Ports the trait `Pixel` of `v_frame` 0.7.0. In Rattle, the functions and constants of the trait replace the conversion
+/// traits that a pixel of `v_frame` 0.7.0 implements, casts of bytes, and `size_of`.
 pub trait Pixel: Copy
     + Clone
     + Eq
@@ -39,99 +39,99 @@ pub trait Pixel: Copy
     + Binary
     + sealed::Sealed
     + 'static {
-    // How a pixel is made of bytes: how many it has, its value, and the pixel that has a value.
+    // The byte encoding of a pixel: the number of bytes, the value of a pixel, and the pixel with a given value.
     ghost form: { PixelForm Self };
 
     ghost BYTES: { ℕ };
 
     ghost ZERO: { Self };
 
-    /// Bytes of one pixel.
+    /// The size of a pixel in bytes.
     const BYTES: usize;
 
     /// The pixel with the value 0.
     const ZERO: Self;
 
-    /// Returns the value.
+    /// Returns the value of the pixel.
     fn into_u16(self) -> u16
         ensures value { result ≡ form.value self }
         ensures fits { result < 256 ^ BYTES };
 
-    /// Returns the value, where it is below 256.
+    /// Returns the value of the pixel, or `None` if it is above 255.
     fn try_into_u8(self) -> Option<u8>
         ensures variant { IsSome result ↔ (form.value self < 256) }
         ensures value { IfSome result (λ v. v ≡ form.value self) };
 
-    /// Returns the pixel with this value.
+    /// Returns the pixel with the value `v`.
     fn from_u8(v: u8) -> Self
         ensures { form.value result ≡ v };
 
-    /// Returns the pixel with this value, where one of the type has it: any value for `u16`, one below 256 for `u8`.
+    /// Returns the pixel with the value `v`, or `None` if `v` does not fit into the type: above 255 for `u8`.
     fn try_from_u16(v: u16) -> Option<Self>
         ensures variant { IsSome result ↔ (v < 256 ^ BYTES) }
         ensures value { IfSome result (λ p. form.value p ≡ v) };
 
-    /// Returns the pixel with this value, which a pixel of the type must have: any value for `u16`, one below 256 for `u8`.
+    /// Returns the pixel with the value `v`, which must fit into the type: any value for `u16`, at most 255 for `u8`.
     fn from_value(v: u16) -> Self
         requires { v < 256 ^ BYTES }
         ensures { result ≡ form.pixel_of v };
 
-    /// Returns the pixel whose bytes are `src`, low byte first. There must be [`BYTES`](Pixel::BYTES) of them.
+    /// Returns the pixel whose bytes are `src`, in little-endian order. The length of `src` must be [`BYTES`](Pixel::BYTES).
     fn from_le(src: &[u8]) -> Self
         requires { length src.now ≡ BYTES }
         ensures { form.value result ≡ value_of_bytes src.now };
 
-    /// Byte `i` of the pixel, counted from the low one. It must be below [`BYTES`](Pixel::BYTES).
+    /// Returns byte `i` of the pixel in little-endian order. The index `i` must be less than [`BYTES`](Pixel::BYTES).
     fn le_byte(self, i: usize) -> u8
         requires { i < BYTES }
         ensures { result ≡ byte_of (form.value self) i };
 
-    /// Decodes a row: pixel `i` of `dst` becomes the one whose bytes begin at index `i * BYTES` of `src`, low byte first. There
-    /// must be [`BYTES`](Pixel::BYTES) bytes for each pixel.
+    /// Decodes the bytes `src` into the row `dst`. Pixel `i` of `dst` becomes the pixel whose bytes begin at index `i * BYTES`
+    /// of `src`, in little-endian order. The length of `src` must be [`BYTES`](Pixel::BYTES) times the length of `dst`.
     fn decode_row(dst: &mut [Self], src: &[u8])
         requires { length src.now ≡ BYTES * length dst.old }
         ensures { dst.new ≡ pixels_of_bytes form (length dst.old) src.now };
 
-    /// Returns the sum of the absolute differences of two rows, which must be equally long. It is always exact.
+    /// Returns the sum of the absolute differences of two rows of equal length. The sum is exact.
     fn sum_of_absolute_differences(a: &[Self], b: &[Self]) -> u128
         requires { length a.now ≡ length b.now }
         ensures value { result ≡ absolute_differences form.value a.now b.now }
         ensures fits { result ≤ 2 ^ 16 * length a.now };
 
-    /// Returns the sum of the squares of the differences of two rows, which must be equally long. It is always exact.
+    /// Returns the sum of the squared differences of two rows of equal length. The sum is exact.
     fn sum_of_squared_errors(a: &[Self], b: &[Self]) -> u128
         requires { length a.now ≡ length b.now }
         ensures value { result ≡ squared_errors form.value a.now b.now }
         ensures fits { result ≤ 2 ^ 32 * length a.now };
 
-    /// Makes one row of half the size of two: pixel `i` of `dst` becomes the mean of the pixels `2 * i` and `2 * i + 1` of
-    /// `top` and of `bottom`, rounded to the nearest value and upwards at a half. Both must be twice as long as `dst`.
+    /// Averages squares of two by two pixels. Pixel `i` of `dst` becomes the mean of the pixels `2 * i` and `2 * i + 1` of
+    /// `top` and of `bottom`, rounded to the nearest value, halves up. `top` and `bottom` must each be twice as long as `dst`.
     fn halve_rows(dst: &mut [Self], top: &[Self], bottom: &[Self])
         requires top { length top.now ≡ 2 * length dst.old }
         requires bottom { length bottom.now ≡ 2 * length dst.old }
         ensures { dst.new ≡ halved form top.now bottom.now };
 
-    // One value, one pixel.
+    // Pixels with equal values are equal.
     ghost one_value: { (p q : Self) → form.value p ≡ form.value q → p ≡ q };
 
-    // The pixel of a pixel's value is that pixel.
+    // The pixel with the value of `p` is `p`.
     ghost pixel_of_value: { (p : Self) → form.pixel_of (form.value p) ≡ p };
 
-    // A number that fits the bytes of a pixel is the value of its pixel.
+    // A number that fits into the bytes of a pixel is the value of some pixel.
     ghost value_of_pixel: { (v : ℕ) → v < 256 ^ form.size → form.value (form.pixel_of v) ≡ v };
 
-    // A pixel has one byte or two, and the constant says how many.
+    // A pixel has one byte or two bytes, and the constant `BYTES` is the number of bytes.
     ghost byte_or_two: { (0 < form.size) × (form.size < 3) };
 
     ghost bytes_of_form: { BYTES ≡ form.size };
 
-    // The value of `ZERO`.
+    // The value of `ZERO` is 0.
     ghost zero_value: { form.value ZERO ≡ 0 };
 
     // The default pixel is `ZERO`.
     ghost default_is_zero: { (p : Self) → Self.is_default p → p ≡ ZERO };
 
-    // A clone never fails, and is the pixel itself.
+    // Cloning never fails, and the clone equals the pixel.
     ghost clones: { (p : Self) → Self.is_infallible p };
 
     ghost clone_is_same: { (p q : Self) → Self.is_clone p q → q ≡ p };
@@ -293,7 +293,7 @@ impl Pixel for u16 {
                 &src[32 * block..32 * block + 32],
             );
         }
-        // The short rest of the row.
+        // The rest of the row is shorter than a block.
         for i in 16 * blocks..dst.len() {
             dst[i] = u16::from_le_bytes([src[2 * i], src[2 * i + 1]]);
         }
@@ -322,9 +322,10 @@ impl Pixel for u16 {
     }
 }
 
-/// Fills a row, or any slice, with one pixel.
+/// Sets every entry of `row` to `pixel`. The slice may be a row or any other slice.
 ///
-/// A proof for any pixel type knows of `fill` that it writes clones, and not that a clone of a pixel is that pixel. Our own.
+/// A proof that is generic over the pixel type knows only that `fill` writes clones, and not that the clone of a pixel is equal
+/// to the pixel. Not part of `v_frame` 0.7.0.
 pub fn fill_row<T: Copy>(row: &mut [T], pixel: T)
     ensures { row.new ≡ replicate (length row.old) pixel }
 {
@@ -333,9 +334,10 @@ pub fn fill_row<T: Copy>(row: &mut [T], pixel: T)
     }
 }
 
-/// Encodes a row, or any slice: the bytes of each pixel, low byte first, one after the other.
+/// Encodes the pixels of `row` into `bytes`, one after the other, each in little-endian order. The slice may be a row or any
+/// other slice.
 ///
-/// There must be [`BYTES`](Pixel::BYTES) bytes for each pixel.
+/// The length of `bytes` must be [`BYTES`](Pixel::BYTES) times the length of `row`.
 pub fn encode_row<T: Pixel>(bytes: &mut [u8], row: &[T])
     requires { length bytes.old ≡ T.BYTES * length row.now }
     ensures { bytes.new ≡ bytes_of_pixels T.form row.now }
@@ -349,10 +351,10 @@ pub fn encode_row<T: Pixel>(bytes: &mut [u8], row: &[T])
     }
 }
 
-/// Decodes 16 pixels.
+/// Decodes 16 pixels of two bytes.
 ///
-/// Two stores of eight, the lower first: one of sixteen is stored upper half first, which is slower where rows begin in the
-/// middle of a cache line.
+/// It uses two stores of eight pixels, the lower first. The compiler splits a store of sixteen pixels and stores the upper half
+/// first, which is slower if rows begin in the middle of a cache line.
 #[inline(always)]
 fn decode_sixteen(dst: &mut [u16], src: &[u8])
     requires pixels { length dst.old ≡ 16 }
@@ -363,7 +365,7 @@ fn decode_sixteen(dst: &mut [u16], src: &[u8])
     eight_pixels(&src[16..]).copy_to_slice(&mut dst[8..]);
 }
 
-/// Returns the pixels of the first 16 bytes.
+/// Returns the 8 pixels that the first 16 bytes encode.
 #[inline(always)]
 fn eight_pixels(src: &[u8]) -> u16x8
     requires { 16 ≤ length src.now }

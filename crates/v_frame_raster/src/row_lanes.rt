@@ -1,5 +1,8 @@
-//! Sums over two rows of wider pixels, in lanes that are added up where a row ends. The rows of a block of a large plane lie far
-//! apart, and a processor reads ahead where it runs a short loop over each: all of a row at once takes up to four times as long.
+//! Sums over two rows of two-byte pixels. Each lane of a vector is a partial sum, and the lanes are added once at the end of a
+//! row.
+//!
+//! In a large plane, the rows of a block lie far apart in memory. The processor prefetches them well if the code runs a short
+//! loop over each row. Code that reads a whole row at once takes up to four times as long.
 ghost use Rattle.std.specs.Prelude.{◌≡◌, ◌≤◌, length, take, sum_by, zip, IsTrue};
 ghost use Rattle.std.specs.Int.{abs_diff};
 ghost use Rattle.std.specs.Simd.Lanes.{zip2};
@@ -7,8 +10,8 @@ ghost use Rattle.v_frame_raster.specs.PixelRows.{squared_error};
 
 use std::simd::{Simd, u32x8};
 
-/// Returns whether a row is one of a larger block, up to the 128 columns of AV1's. Longer rows are read ahead of in any order, and
-/// pieces of 32 take them faster.
+/// Returns whether a row of `len` pixels belongs to a larger block, with up to the 128 columns of AV1's largest block. Longer
+/// rows are prefetched in any case, and pieces of 32 pixels are faster for them.
 #[inline(always)]
 pub fn is_of_larger_block(len: usize) -> bool
     ensures { IsTrue result → len ≤ 65536 }
@@ -28,7 +31,7 @@ fn differences(a: &[u16], b: &[u16]) -> u32x8
         .cast::<u32>()
 }
 
-/// Returns the squares of these differences.
+/// Returns the squared differences of the first 8 pixels of two rows.
 #[inline(always)]
 fn squares(a: &[u16], b: &[u16]) -> Simd<u64, 8>
     requires first { 8 ≤ length a.now }
@@ -39,7 +42,7 @@ fn squares(a: &[u16], b: &[u16]) -> Simd<u64, 8>
     (differences * differences).cast::<u64>()
 }
 
-/// Returns the absolute differences of two rows, summed.
+/// Returns the sum of the absolute differences of two rows.
 #[inline(always)]
 pub fn absolute_in_lanes(a: &[u16], b: &[u16]) -> u128
     requires same { length a.now ≡ length b.now }
@@ -58,7 +61,7 @@ pub fn absolute_in_lanes(a: &[u16], b: &[u16]) -> u128
     sum
 }
 
-/// Returns the squares of the differences of two rows, summed.
+/// Returns the sum of the squared differences of two rows.
 #[inline(always)]
 pub fn squared_in_lanes(a: &[u16], b: &[u16]) -> u128
     requires same { length a.now ≡ length b.now }

@@ -1,45 +1,45 @@
-//! Sums over two rows, in blocks for which the compiler has packed instructions.
+//! Sums over two rows, in blocks for which the compiler emits vector instructions.
 ghost use Rattle.std.specs.Prelude.{◌≡◌, ℕ, ◌≤◌, length, take, sum_by, zip};
 ghost use Rattle.std.specs.Int.{abs_diff};
 ghost use Rattle.v_frame_raster.specs.PixelRows.{squared_error};
 
 use std::simd::Simd;
 
-/// What is summed over two rows.
+/// The difference between two pixels that is summed over two rows.
 pub trait Difference<T> {
-    // What two pixels at the same index add.
+    // The amount that two pixels at the same index add to the sum.
     ghost between: { T → T → ℕ };
 
-    /// What these two pixels add.
+    /// Returns the amount that the pixels `a` and `b` add to the sum.
     fn of_pixels(a: T, b: T) -> u32
         ensures { result ≡ between a b };
 
-    /// What the first 8 pixels of each row add.
+    /// Returns the amount that the first 8 pixels of each row add to the sum.
     fn of_eights(a: &[T], b: &[T]) -> u64
         requires first { 8 ≤ length a.now }
         requires second { 8 ≤ length b.now }
         ensures { result ≡ sum_by (λ p. between p.0 p.1) (zip (take 8 a.now) (take 8 b.now)) };
 
-    /// What the first 16 pixels of each row add.
+    /// Returns the amount that the first 16 pixels of each row add to the sum.
     fn of_sixteens(a: &[T], b: &[T]) -> u64
         requires first { 16 ≤ length a.now }
         requires second { 16 ≤ length b.now }
         ensures { result ≡ sum_by (λ p. between p.0 p.1) (zip (take 16 a.now) (take 16 b.now)) };
 
-    /// What the first 32 pixels of each row add.
+    /// Returns the amount that the first 32 pixels of each row add to the sum.
     fn of_blocks(a: &[T], b: &[T]) -> u64
         requires first { 32 ≤ length a.now }
         requires second { 32 ≤ length b.now }
         ensures { result ≡ sum_by (λ p. between p.0 p.1) (zip (take 32 a.now) (take 32 b.now)) };
 
-    /// What the first 64 pixels of each row add.
+    /// Returns the amount that the first 64 pixels of each row add to the sum.
     fn of_sixty_fours(a: &[T], b: &[T]) -> u64
         requires first { 64 ≤ length a.now }
         requires second { 64 ≤ length b.now }
         ensures { result ≡ sum_by (λ p. between p.0 p.1) (zip (take 64 a.now) (take 64 b.now)) };
 }
 
-/// The absolute difference.
+/// The absolute difference of two pixels.
 pub struct Absolute;
 
 impl Difference<u8> for Absolute {
@@ -100,7 +100,7 @@ impl Difference<u16> for Absolute {
     }
 }
 
-/// The square of the difference.
+/// The squared difference of two pixels.
 pub struct Squared;
 
 impl Difference<u8> for Squared {
@@ -163,7 +163,7 @@ impl Difference<u16> for Squared {
     }
 }
 
-/// Absolute differences of the first bytes, summed.
+/// Returns the sum of the absolute differences of the first `N` one-byte pixels.
 #[inline(always)]
 fn absolute_of_bytes<const N: usize>(a: &[u8], b: &[u8]) -> u64
     requires lanes { N ≤ 64 }
@@ -175,7 +175,7 @@ fn absolute_of_bytes<const N: usize>(a: &[u8], b: &[u8]) -> u64
     u64::from(differences.cast::<u32>().strict_reduce_sum())
 }
 
-/// Absolute differences of the first wider pixels, summed.
+/// Returns the sum of the absolute differences of the first `N` two-byte pixels.
 #[inline(always)]
 fn absolute_of_words<const N: usize>(a: &[u16], b: &[u16]) -> u64
     requires lanes { N ≤ 64 }
@@ -187,7 +187,7 @@ fn absolute_of_words<const N: usize>(a: &[u16], b: &[u16]) -> u64
     u64::from(differences.cast::<u32>().strict_reduce_sum())
 }
 
-/// Squares of the differences of the first bytes, summed.
+/// Returns the sum of the squared differences of the first `N` one-byte pixels.
 #[inline(always)]
 fn squared_of_bytes<const N: usize>(a: &[u8], b: &[u8]) -> u64
     requires lanes { N ≤ 64 }
@@ -201,7 +201,7 @@ fn squared_of_bytes<const N: usize>(a: &[u8], b: &[u8]) -> u64
     u64::from((differences * differences).strict_reduce_sum())
 }
 
-/// Squares of the differences of the first wider pixels, summed.
+/// Returns the sum of the squared differences of the first `N` two-byte pixels.
 #[inline(always)]
 fn squared_of_words<const N: usize>(a: &[u16], b: &[u16]) -> u64
     requires lanes { N ≤ 64 }
@@ -217,7 +217,8 @@ fn squared_of_words<const N: usize>(a: &[u16], b: &[u16]) -> u64
         .strict_reduce_sum()
 }
 
-/// Returns the sum over two rows of equal length: of the widths that blocks have at once, and else by pieces.
+/// Returns the sum over two rows of equal length. Rows as wide as common blocks are summed in one expression, other rows by
+/// pieces.
 #[inline(always)]
 pub fn sum_over_rows<T: Copy, D: Difference<T>>(a: &[T], b: &[T]) -> u128
     requires { length a.now ≡ length b.now }
@@ -232,7 +233,7 @@ pub fn sum_over_rows<T: Copy, D: Difference<T>>(a: &[T], b: &[T]) -> u128
     }
 }
 
-/// Returns the sum over two rows of equal length, of any length.
+/// Returns the sum over two rows of equal length, for any length.
 fn sum_by_pieces<T: Copy, D: Difference<T>>(a: &[T], b: &[T]) -> u128
     requires { length a.now ≡ length b.now }
     ensures { result ≡ sum_by (λ p. D.between p.0 p.1) (zip a.now b.now) }
@@ -242,7 +243,7 @@ fn sum_by_pieces<T: Copy, D: Difference<T>>(a: &[T], b: &[T]) -> u128
     for block in 0..blocks {
         sum += u128::from(D::of_blocks(&a[32 * block..], &b[32 * block..]));
     }
-    // The rest of the rows, or all of narrow ones.
+    // The rest of the rows, or the whole rows if they are narrow.
     let eights = a.len() / 8;
     for eight in 4 * blocks..eights {
         sum += u128::from(D::of_eights(&a[8 * eight..], &b[8 * eight..]));

@@ -4,8 +4,8 @@
 #[cfg(test)]
 mod tests;
 
-// What the program and its tests are made of stands in libraries, which others link without the program. These are the names
-// here.
+// The parts of the program and its tests are in libraries, which other crates link without the program. These modules give them
+// local names.
 
 mod counted {
     pub use v_frame_planar::Counted;

@@ -1,4 +1,4 @@
-//! Tests by public calls, with expected values that were worked out by hand.
+//! Tests by public calls. The expected values were computed by hand.
 
 mod frame;
 mod planar;

@@ -1,4 +1,4 @@
--- What the frame answers once its copy was accepted, and what a fault leaves of the writer.
+-- The results of the frame after a successful copy, and the state of the writer after a fault.
 use Rattle.std.proofs.Common.{ℕ, ◌≡◌, List, [], ◌∷◌, length, take, drop, Option, Some, Err, Result}
 use Rattle.std.proofs.Common.{true, false, is_ok, inl, inr, None, refl, ◌∙◌, ap, option_map}
 use Rattle.std.proofs.lemmas.Bool.Decides.{eqb_tells}
@@ -28,7 +28,7 @@ after_copy source rest copied ok is =
           cc
     ]
 
--- a small frame of monochrome video shows its zeros
+-- A small monochrome frame shows its zeros.
 pub blank_shows : (request : FrameRequest) (frame : Frame ℕ) → request.width ≡ 4 → request.height ≡ 2 →
     request.subsampling ≡ Monochrome
     → IsBlank 0 request frame → tables_of frame ≡ blank_tables

@@ -1,4 +1,4 @@
-//! Why the program gave up.
+//! The faults of the program.
 
 use std::alloc::AllocError;
 use thiserror::Error;
@@ -6,7 +6,7 @@ use v_frame::frame::FrameError;
 use v_frame::plane::CopyError;
 use v_frame_planar::WriteFault;
 
-/// Why [`run`](super::run::run) gave up.
+/// The reason why [`run`](super::run::run) failed.
 #[derive(Debug, PartialEq, Eq, Drop, Error)]
 pub enum ToolFault {
     /// The frame could not be built.
@@ -15,13 +15,13 @@ pub enum ToolFault {
     /// The source could not be copied. Nothing was written.
     #[error(transparent)]
     Copy(CopyError),
-    /// A request for memory was refused.
+    /// Memory could not be allocated.
     #[error("out of memory")]
     OutOfMemory,
     /// A write failed.
     #[error("cannot write the output")]
     Output,
-    /// A write took none of the bytes that it was offered.
+    /// A write took none of the bytes that it was given.
     #[error("write took nothing")]
     WriteZero,
 }

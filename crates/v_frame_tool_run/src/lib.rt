@@ -1,7 +1,7 @@
-//! What the program `v_frame_tool` prints: a small frame is built, filled by a replay, read by it, and written as text.
+//! The output of the program `v_frame_tool`: it builds a small frame, fills and reads it by a replay, and writes it as text.
 //!
-//! It stands in a library of its own, since what stands in a program can be called by no other crate: so each of its requests
-//! for memory can be refused.
+//! This code is in a library because other crates cannot call code of a program. A test can therefore make each of its memory
+//! allocations fail.
 #![tactic(auto)]
 
 pub mod fault;

@@ -1,4 +1,4 @@
-//! The program: a small frame is built, filled and printed.
+//! The program: it builds, fills and prints a small frame.
 ghost use Rattle.std.specs.Prelude.{◌≡◌, ◌≢◌, ℕ, ◌<◌, ◌⊎◌, List, [], ◌∷◌, ◌++◌, length, IfOk, IfErr, OnOk, string_bytes, Some, Err};
 ghost use Rattle.std.specs.Io.KnownBytes.{Appends};
 ghost use Rattle.v_frame.specs.Prelude.{cut_rows, tables_of, one_byte, answers_to};
@@ -14,14 +14,14 @@ use v_frame::plane::CopyError;
 use v_frame::replay::{Answer, VisibleCall, replay};
 use v_frame_planar::Counted;
 
-/// Writes what a 4 by 2 luma plane shows that was filled with the pixels of `source`.
+/// Writes the visible pixels of a luma plane of 4 by 2 pixels that is filled with the pixels of `source`.
 ///
 /// # Errors
 ///
-/// [`ToolFault::Copy`] where the source has another number of pixels than 8; [`ToolFault::Frame`] and
-/// [`ToolFault::OutOfMemory`] where a request for memory was refused. For these nothing was written.
-/// [`ToolFault::Output`] where a write failed, interrupted ones too, and [`ToolFault::WriteZero`] where one took none of the
-/// bytes it was offered: then a beginning of the text was written.
+/// - [`ToolFault::Copy`] if the length of `source` is not 8 pixels. Nothing is written.
+/// - [`ToolFault::Frame`] and [`ToolFault::OutOfMemory`] if memory cannot be allocated. Nothing is written.
+/// - [`ToolFault::Output`] if a write failed, including interrupted writes. The first part of the text may have been written.
+/// - [`ToolFault::WriteZero`] if a write took none of its bytes. The first part of the text may have been written.
 pub fn run<W: io::Write>(
     alloc: Global,
     out: &mut Counted<W>,
@@ -45,7 +45,7 @@ pub fn run<W: io::Write>(
     Ok(())
 }
 
-/// What a small frame answers when it is filled with the pixels of `source`, measured and read.
+/// Returns the results of calls that fill a small frame with the pixels of `source`, measure it and read it.
 fn answers_of_frame(alloc: Global, source: &[u8]) -> Result<Vec<Answer<u8>>, ToolFault>
     ensures ok { IfOk result (λ answers.
         answers.items ≡ answers_to one_byte (calls_on source.now) blank_tables) }
@@ -67,7 +67,7 @@ fn answers_of_frame(alloc: Global, source: &[u8]) -> Result<Vec<Answer<u8>>, Too
     replay(alloc, &mut frame, &calls).map_err(|_| ToolFault::OutOfMemory)
 }
 
-/// Returns a luma plane of 4 by 2 zeros in a border.
+/// Returns a frame with a luma plane of 4 by 2 zeros inside a border.
 fn small_frame(alloc: Global) -> Result<Frame<u8>, ToolFault>
     ensures ok { IfOk result (λ frame. tables_of frame ≡ blank_tables) }
     ensures fault { IfErr result (λ fault. fault ≡ ToolFault.Frame FrameError.OutOfMemory) }
@@ -83,7 +83,7 @@ fn small_frame(alloc: Global) -> Result<Frame<u8>, ToolFault>
     }
 }
 
-/// Takes the first answer off the list, which is that of a copy.
+/// Removes the first result from the list. It is that of a copy.
 fn take_copied(answers: &mut Vec<Answer<u8>>) -> Result<(), CopyError>
     requires { StartsWithCopy answers.old.items }
     ensures { answers.old.items ≡ Answer.Copied result ∷ answers.new.items }
@@ -118,7 +118,7 @@ fn text_of(alloc: Global, answers: &[Answer<u8>]) -> Result<String, AllocError>
     Ok(text)
 }
 
-/// Appends a row's numbers and a line end.
+/// Appends the numbers of a row and a newline.
 fn push_row(text: &mut String, row: &[u8]) -> Result<(), AllocError>
     ensures { OnOk result (string_bytes text.new ≡ string_bytes text.old ++ line_of row.now) }
 {

@@ -1,10 +1,10 @@
-//! What `==` of frames compares.
+//! The meaning of `==` for frames.
 ghost use Rattle.std.specs.Prelude.{◌≡◌, ◌↔◌, IsTrue};
 
 use crate::frame::Frame;
 use crate::pixel::Pixel;
 
-/// Frames are equal exactly where all five of their fields are.
+/// Two frames are equal if and only if all five fields are equal.
 pub fn frames_are_equal<T: Pixel>(a: &Frame<T>, b: &Frame<T>) -> bool
     ensures { IsTrue result ↔ (a.now ≡ b.now) }
 {

@@ -1,4 +1,5 @@
-//! Laws of the iterators that lend rows and pixels for writing: what `next` and `next_back` give, and what is left.
+//! Laws of the iterators that lend rows and pixels for writing: the items that `next` and `next_back` yield, and the effect of
+//! writes.
 ghost use Rattle.std.specs.Prelude.{◌≡◌, All, None, IfOk};
 ghost use Rattle.v_frame_raster.specs.Table.{row_major};
 ghost use Rattle.v_frame_raster.specs.Raster.{KeepsBorder, table_of};
@@ -13,8 +14,8 @@ use crate::replay::{Drawn, PixelDraw, RowDraw, Side};
 use crate::sequence::Sequence;
 use std::alloc::{AllocError, Global};
 
-/// Any calls of `next` and `next_back` lend each row of a plane once, from its end. The error is an allocation failure: rows
-/// are copied.
+/// Any series of `next` and `next_back` calls on `Plane::rows_mut` lends each row of the plane once. The rows are copied, and
+/// the error means that memory could not be allocated.
 pub fn lent_rows_are_drawn_once<T: Pixel>(
     alloc: Global,
     plane: &mut Plane<T>,
@@ -27,7 +28,8 @@ pub fn lent_rows_are_drawn_once<T: Pixel>(
     draw_items(alloc, &mut plane.rows_mut(), sides)
 }
 
-/// Any calls of `next` and `next_back` lend each pixel of a plane once, from its end. The error is an allocation failure.
+/// Any series of `next` and `next_back` calls on `Plane::pixels_mut` lends each pixel of the plane once. The error means that
+/// memory could not be allocated.
 pub fn lent_pixels_are_drawn_once<T: Pixel>(
     alloc: Global,
     plane: &mut Plane<T>,
@@ -41,8 +43,8 @@ pub fn lent_pixels_are_drawn_once<T: Pixel>(
     draw_items(alloc, &mut plane.pixels_mut(), sides)
 }
 
-/// Rows that any calls of `next` and `next_back` lend hold what is written into them, and all else is as before. Where no
-/// call writes a pixel, so is the whole plane.
+/// Rows that any series of `next` and `next_back` calls lends hold the pixels that are written into them. All other entries of
+/// the plane are unchanged. If no call writes a pixel, the whole plane is unchanged.
 pub fn lent_rows_hold_what_is_written<T: Copy>(plane: &mut Plane<T>, draws: &[RowDraw<T>])
     ensures written { table_of plane.new ≡ rows_written (table_of plane.old) draws.now }
     ensures border { KeepsBorder plane.old plane.new }
@@ -55,8 +57,8 @@ pub fn lent_rows_hold_what_is_written<T: Copy>(plane: &mut Plane<T>, draws: &[Ro
     let _after = plane.data();
 }
 
-/// Pixels that any calls of `next` and `next_back` lend hold what is written into them, and all else is as before. Where no
-/// call writes its pixel, so is the whole plane.
+/// Pixels that any series of `next` and `next_back` calls lends hold the values that are written into them. All other entries
+/// of the plane are unchanged. If no call writes its pixel, the whole plane is unchanged.
 pub fn lent_pixels_hold_what_is_written<T: Copy>(plane: &mut Plane<T>, draws: &[PixelDraw<T>])
     ensures written { table_of plane.new ≡ pixels_written (table_of plane.old) draws.now }
     ensures border { KeepsBorder plane.old plane.new }

@@ -1,4 +1,4 @@
-//! The visible calls.
+//! The calls on visible pixels, as values.
 ghost use Rattle.std.specs.Prelude.{◌≡◌};
 
 use super::draw::{PixelDraw, RowDraw, Side};
@@ -6,117 +6,115 @@ use crate::sequence::Sequence;
 
 /// One call on one plane of a frame, as a value.
 ///
-/// Planes are counted 0 for Y, 1 for U and 2 for V. Our own.
+/// Planes have the indices 0 for Y, 1 for U and 2 for V. Not part of `v_frame` 0.7.0.
 #[derive(Debug, PartialEq, Eq, Drop)]
 pub enum VisibleCall<T> {
-    /// [`Plane::width`](crate::plane::Plane::width).
+    /// Calls [`Plane::width`](crate::plane::Plane::width).
     Width {
-        /// The plane.
+        /// The index of the plane.
         plane: usize,
     },
-    /// [`Plane::height`](crate::plane::Plane::height).
+    /// Calls [`Plane::height`](crate::plane::Plane::height).
     Height {
-        /// The plane.
+        /// The index of the plane.
         plane: usize,
     },
-    /// [`Plane::row`](crate::plane::Plane::row).
+    /// Calls [`Plane::row`](crate::plane::Plane::row).
     Row {
-        /// The plane.
+        /// The index of the plane.
         plane: usize,
-        /// The row, from the top.
+        /// The row, counted from the top.
         y: usize,
     },
-    /// [`Plane::row_mut`](crate::plane::Plane::row_mut): the row as it was is answered, and then overwritten.
+    /// Calls [`Plane::row_mut`](crate::plane::Plane::row_mut), and writes into the row. The result is the row before the write.
     RowMut {
-        /// The plane.
+        /// The index of the plane.
         plane: usize,
-        /// The row, from the top.
+        /// The row, counted from the top.
         y: usize,
-        /// What to write into the row, from the left. `None` leaves a pixel, and so does a list that ends before it.
-        /// Entries past the width are ignored.
+        /// The new pixels of the row, from the left. A pixel is unchanged if its entry is `None`, or if the list ends before
+        /// it. Entries past the width are ignored.
         writes: Sequence<Option<T>>,
     },
-    /// [`Plane::pixel`](crate::plane::Plane::pixel), inside the visible rectangle alone.
+    /// Calls [`Plane::pixel`](crate::plane::Plane::pixel), but only inside the visible rectangle.
     Pixel {
-        /// The plane.
+        /// The index of the plane.
         plane: usize,
-        /// The column, from the left.
+        /// The column, counted from the left.
         x: usize,
-        /// The row, from the top.
+        /// The row, counted from the top.
         y: usize,
     },
-    /// [`Plane::pixel_mut`](crate::plane::Plane::pixel_mut), inside the visible rectangle alone: the pixel as it was is
-    /// answered, and then replaced.
+    /// Calls [`Plane::pixel_mut`](crate::plane::Plane::pixel_mut) inside the visible rectangle only, and replaces the pixel.
+    /// The result is the pixel before the write.
     PixelMut {
-        /// The plane.
+        /// The index of the plane.
         plane: usize,
-        /// The column, from the left.
+        /// The column, counted from the left.
         x: usize,
-        /// The row, from the top.
+        /// The row, counted from the top.
         y: usize,
         /// The new pixel.
         value: T,
     },
-    /// [`Plane::copy_from_slice`](crate::plane::Plane::copy_from_slice).
+    /// Calls [`Plane::copy_from_slice`](crate::plane::Plane::copy_from_slice).
     CopyFromSlice {
-        /// The plane.
+        /// The index of the plane.
         plane: usize,
-        /// The pixels to copy, row after row.
+        /// The pixels to copy, row by row from the top.
         source: Sequence<T>,
     },
-    /// [`Plane::copy_from_u8_slice`](crate::plane::Plane::copy_from_u8_slice).
+    /// Calls [`Plane::copy_from_u8_slice`](crate::plane::Plane::copy_from_u8_slice).
     CopyFromU8Slice {
-        /// The plane.
+        /// The index of the plane.
         plane: usize,
-        /// The bytes to copy, row after row, each pixel low byte first.
+        /// The bytes to copy, row by row from the top. Each pixel is encoded in little-endian order.
         source: Sequence<u8>,
     },
-    /// [`Plane::copy_from_u8_slice_with_stride`](crate::plane::Plane::copy_from_u8_slice_with_stride).
+    /// Calls [`Plane::copy_from_u8_slice_with_stride`](crate::plane::Plane::copy_from_u8_slice_with_stride).
     CopyFromU8SliceWithStride {
-        /// The plane.
+        /// The index of the plane.
         plane: usize,
-        /// The bytes to copy, row after row, each row with its tail.
+        /// The bytes to copy, row by row from the top, including the bytes between the rows.
         source: Sequence<u8>,
-        /// Bytes from the start of one row of the source to the start of the next.
+        /// The number of bytes from the start of one row of the source to the start of the next.
         stride: usize,
     },
-    /// [`Plane::rows`](crate::plane::Plane::rows), whose items are taken from these sides in turn.
+    /// Calls [`Plane::rows`](crate::plane::Plane::rows), and takes an item from each of these sides in turn.
     Rows {
-        /// The plane.
+        /// The index of the plane.
         plane: usize,
-        /// The sides. Past the end of the iterator the item is `None`.
+        /// The sides. An item past the end of the iterator is `None`.
         draws: Sequence<Side>,
     },
-    /// [`Plane::pixels`](crate::plane::Plane::pixels), whose items are taken from these sides in turn.
+    /// Calls [`Plane::pixels`](crate::plane::Plane::pixels), and takes an item from each of these sides in turn.
     Pixels {
-        /// The plane.
+        /// The index of the plane.
         plane: usize,
-        /// The sides. Past the end of the iterator the item is `None`.
+        /// The sides. An item past the end of the iterator is `None`.
         draws: Sequence<Side>,
     },
-    /// [`Plane::byte_data`](crate::plane::Plane::byte_data), whose items are taken from these sides in turn.
+    /// Calls [`Plane::byte_data`](crate::plane::Plane::byte_data), and takes an item from each of these sides in turn.
     ByteData {
-        /// The plane.
+        /// The index of the plane.
         plane: usize,
-        /// The sides. Past the end of the iterator the item is `None`.
+        /// The sides. An item past the end of the iterator is `None`.
         draws: Sequence<Side>,
     },
-    /// [`Plane::rows_mut`](crate::plane::Plane::rows_mut), whose items are taken from these sides in turn: each row as it was
-    /// is answered, and then overwritten.
+    /// Calls [`Plane::rows_mut`](crate::plane::Plane::rows_mut), takes a row from each of these sides in turn, and writes into
+    /// it. The result has each row before the writes.
     RowsMut {
-        /// The plane.
+        /// The index of the plane.
         plane: usize,
-        /// The sides, and what to write into each item. Past the end of the iterator the item is `None`, and nothing is
-        /// written.
+        /// The sides, and the new pixels of each row. Past the end of the iterator the item is `None`, and nothing is written.
         draws: Sequence<RowDraw<T>>,
     },
-    /// [`Plane::pixels_mut`](crate::plane::Plane::pixels_mut), whose items are taken from these sides in turn: each pixel as it
-    /// was is answered, and then replaced.
+    /// Calls [`Plane::pixels_mut`](crate::plane::Plane::pixels_mut), takes a pixel from each of these sides in turn, and
+    /// replaces it. The result has each pixel before the writes.
     PixelsMut {
-        /// The plane.
+        /// The index of the plane.
         plane: usize,
-        /// The sides, and what to write into each item. Past the end of the iterator the item is `None`, and nothing is
-        /// written.
+        /// The sides, and the new value of each pixel. Past the end of the iterator the item is `None`, and nothing is written.
         draws: Sequence<PixelDraw<T>>,
     },
 }
@@ -124,7 +122,7 @@ pub enum VisibleCall<T> {
 impl<T> VisibleCall<T> {
     ghost use Rattle.v_frame.specs.Replay.{named_plane};
 
-    /// Returns the plane that the call names.
+    /// Returns the index of the plane that the call names.
     pub(crate) fn plane(&self) -> usize
         ensures { result ≡ named_plane self.now }
     {

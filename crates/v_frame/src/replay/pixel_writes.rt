@@ -1,4 +1,4 @@
-//! The kinds of call that write pixels: one by its column and row, or those that an iterator gives.
+//! The calls that write pixels: one pixel by its column and row, or the pixels that an iterator yields.
 ghost use Rattle.std.specs.Prelude.{◌≡◌, [], ◌∷◌, length, map, IfOk, OnOk, OnErr};
 ghost use Rattle.v_frame_raster.specs.Table.{pixel_at, row_major, with_pixel};
 ghost use Rattle.v_frame_raster.specs.Raster.{KeepsBorder, table_of};
@@ -18,7 +18,8 @@ use std::alloc::{AllocError, Global};
 use std::mem;
 use v_frame_plane::laws::dropped_pixels_keep_their_values;
 
-/// Replaces a pixel of the visible rectangle.
+/// Replaces the pixel in column `x` of row `y`, if it lies inside the visible rectangle, and returns the pixel before the
+/// write.
 pub(crate) fn replay_pixel_mut<T: Copy>(
     plane: &mut Plane<T>,
     x: usize,
@@ -35,7 +36,8 @@ pub(crate) fn replay_pixel_mut<T: Copy>(
     Answer::PixelShown(mem::replace(plane.visible_pixel_mut(x, y), value))
 }
 
-/// Replaces the pixels that `draws` take, once there is room for what they were.
+/// Replaces the pixels that `draws` take, and returns the pixels before the writes. The memory for the result is allocated
+/// first.
 pub(crate) fn replay_pixels_mut<T: Pixel>(
     alloc: Global,
     plane: &mut Plane<T>,
@@ -52,7 +54,7 @@ pub(crate) fn replay_pixels_mut<T: Pixel>(
     Ok(Answer::PixelsWalked { total, drawn })
 }
 
-/// Replaces the pixels that `draws` take. Past the last pixel nothing is written.
+/// Replaces the pixels that `draws` take. Draws past the last pixel write nothing.
 pub(crate) fn write_pixels<T: Copy>(plane: &mut Plane<T>, draws: &[PixelDraw<T>])
     ensures table { table_of plane.new ≡ pixels_written (table_of plane.old) draws.now }
     ensures border { KeepsBorder plane.old plane.new }
@@ -70,7 +72,7 @@ pub(crate) fn write_pixels<T: Copy>(plane: &mut Plane<T>, draws: &[PixelDraw<T>]
     dropped_pixels_keep_their_values::<T>();
 }
 
-/// Replaces a pixel by the value of `draw`, where it has one.
+/// Replaces a pixel with the value of `draw`, if `draw` has one.
 pub(crate) fn replace_by<T: Copy>(pixel: &mut T, draw: &PixelDraw<T>)
     ensures { pixel.new ≡ pixel_written draw.now pixel.old }
 {

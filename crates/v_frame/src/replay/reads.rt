@@ -1,4 +1,4 @@
-//! The kinds of call that read a size, a row or a pixel.
+//! The calls that read a size, a row or a pixel.
 ghost use Rattle.std.specs.Prelude.{◌≡◌, IfOk, length, slice_get};
 ghost use Rattle.v_frame_raster.specs.Pixel.{byte_list};
 ghost use Rattle.v_frame_raster.specs.Table.{pixel_at, row_major};
@@ -15,7 +15,7 @@ use crate::plane::Plane;
 use crate::sequence::Sequence;
 use std::alloc::{AllocError, Global};
 
-/// Returns the row, copied.
+/// Returns a copy of row `y`.
 pub(crate) fn row_shown<T: Copy>(
     alloc: Global,
     plane: &Plane<T>,
@@ -27,7 +27,7 @@ pub(crate) fn row_shown<T: Copy>(
     Ok(Answer::RowShown(row))
 }
 
-/// Returns the pixel of the visible rectangle.
+/// Returns the pixel in column `x` of row `y`, if it lies inside the visible rectangle.
 pub(crate) fn pixel_shown<T: Pixel>(plane: &Plane<T>, x: usize, y: usize) -> Answer<T>
     ensures { result ≡ answer_of_pixel (pixel_at (table_of plane.now) x y) }
 {
@@ -40,7 +40,7 @@ pub(crate) fn pixel_shown<T: Pixel>(plane: &Plane<T>, x: usize, y: usize) -> Ans
     }
 }
 
-/// Returns the rows that are drawn, copied.
+/// Returns copies of the rows that are taken from the given sides.
 pub(crate) fn rows_walked<T: Copy>(
     alloc: Global,
     plane: &Plane<T>,
@@ -53,7 +53,7 @@ pub(crate) fn rows_walked<T: Copy>(
     Ok(Answer::RowsWalked { total, drawn })
 }
 
-/// Returns the pixels that are drawn.
+/// Returns the pixels that are taken from the given sides.
 pub(crate) fn pixels_walked<T: Pixel>(
     alloc: Global,
     plane: &Plane<T>,
@@ -66,7 +66,7 @@ pub(crate) fn pixels_walked<T: Pixel>(
     Ok(Answer::PixelsWalked { total, drawn })
 }
 
-/// Returns the bytes that are drawn.
+/// Returns the bytes that are taken from the given sides.
 pub(crate) fn bytes_walked<T: Pixel>(
     alloc: Global,
     plane: &Plane<T>,

@@ -1,4 +1,4 @@
-//! The kinds of call that write rows: one by its number, or those that an iterator gives.
+//! The calls that write rows: one row by its number, or the rows that an iterator yields.
 ghost use Rattle.std.specs.Prelude.{◌≡◌, [], ◌∷◌, length, map, slice_get, IfOk, OnOk, OnErr};
 ghost use Rattle.v_frame_raster.specs.Table.{overwritten_row, with_writes};
 ghost use Rattle.v_frame_raster.specs.Raster.{KeepsBorder, table_of};
@@ -16,7 +16,7 @@ use crate::plane::{Plane, RowsMut};
 use std::alloc::{AllocError, Global};
 use v_frame_plane::laws::held_rows_are_the_table;
 
-/// Overwrites a row, once there is room for what it was.
+/// Overwrites row `y`, and returns the row before the write. The memory for the result is allocated first.
 pub(crate) fn replay_row_mut<T: Copy>(
     alloc: Global,
     plane: &mut Plane<T>,
@@ -34,7 +34,7 @@ pub(crate) fn replay_row_mut<T: Copy>(
     Ok(answer)
 }
 
-/// Overwrites a row, where the plane has it. Below the visible rectangle nothing changes.
+/// Overwrites row `y`. Nothing changes if `y` is not less than the visible height.
 fn overwrite_row<T: Copy>(plane: &mut Plane<T>, y: usize, writes: &[Option<T>])
     ensures table { table_of plane.new ≡ with_writes (table_of plane.old) y writes.now }
     ensures border { KeepsBorder plane.old plane.new }
@@ -44,17 +44,17 @@ fn overwrite_row<T: Copy>(plane: &mut Plane<T>, y: usize, writes: &[Option<T>])
     }
 }
 
-/// Writes those entries that have a pixel into a row. Entries past its end are ignored.
+/// Writes the entries that are `Some` into a row. Entries past the end of the row are ignored.
 fn overwrite<T: Copy>(row: &mut [T], writes: &[Option<T>])
     ensures { row.new ≡ overwritten_row row.old writes.now }
 {
     for i in 0..row.len().min(writes.len()) {
-        // A store at each index, and no branch: so several pixels are written at once.
+        // This stores at every index instead of branching, so that the loop is vectorized.
         row[i] = writes[i].unwrap_or(row[i]);
     }
 }
 
-/// Overwrites the rows that `draws` take, once there is room for what they were.
+/// Overwrites the rows that `draws` take, and returns the rows before the writes. The memory for the result is allocated first.
 pub(crate) fn replay_rows_mut<T: Copy>(
     alloc: Global,
     plane: &mut Plane<T>,
@@ -71,7 +71,7 @@ pub(crate) fn replay_rows_mut<T: Copy>(
     Ok(Answer::RowsWalked { total, drawn })
 }
 
-/// Overwrites the rows that `draws` take. Past the last row nothing is written.
+/// Overwrites the rows that `draws` take. Draws past the last row write nothing.
 pub(crate) fn write_rows<T: Copy>(plane: &mut Plane<T>, draws: &[RowDraw<T>])
     ensures table { table_of plane.new ≡ rows_written (table_of plane.old) draws.now }
     ensures border { KeepsBorder plane.old plane.new }
@@ -89,7 +89,7 @@ pub(crate) fn write_rows<T: Copy>(plane: &mut Plane<T>, draws: &[RowDraw<T>])
     held_rows_are_the_table::<T>();
 }
 
-/// Overwrites a row by the writes of `draw`.
+/// Overwrites a row with the writes of `draw`.
 pub(crate) fn overwrite_by<T: Copy>(row: &mut [T], draw: &RowDraw<T>)
     ensures { row.new ≡ row_written draw.now row.old }
 {

@@ -1,4 +1,4 @@
-//! The kinds of call that take items from the iterators of a plane, from the sides of a list in turn.
+//! The calls that take items from the iterators of a plane, from each side of a list in turn.
 ghost use Rattle.std.specs.Prelude.{◌≡◌, List, length, map, IfOk};
 ghost use Rattle.v_frame.specs.Walk.{item_from, remaining_after, draws_answer};
 
@@ -8,23 +8,23 @@ use crate::plane::{ByteData, Pixels, Rows};
 use crate::sequence::Sequence;
 use std::alloc::{AllocError, Global};
 
-/// A double-ended iterator over a plane. An answer holds what it gives, so what it only lends is copied.
+/// A double-ended iterator over a plane. A result holds its items, so items that the iterator only lends are copied.
 pub(crate) trait Walk {
     ghost use Rattle.std.specs.Prelude.{◌≡◌, List, length, IfOk};
     ghost use Rattle.v_frame.specs.Walk.{item_from, remaining_after};
 
-    /// What an answer holds for an item.
+    /// The form in which a result holds an item.
     type Item;
 
-    // The items that remain.
+    // The remaining items.
     ghost items: { Self → List Self.Item };
 
-    /// Returns the next item from this side, as an answer holds it.
+    /// Returns the next item from `side`, in the form in which a result holds it.
     fn draw(&mut self, alloc: Global, side: Side) -> Result<Option<Self::Item>, AllocError>
         ensures item { IfOk result (λ item. item ≡ item_from side (items self.old)) }
         ensures remaining { items self.new ≡ remaining_after side (items self.old) };
 
-    /// Returns how many items remain.
+    /// Returns the number of remaining items.
     fn remaining(&self) -> usize
         ensures { result ≡ length (items self.now) };
 }
@@ -81,7 +81,7 @@ impl<'a, T: Pixel> Walk for ByteData<'a, T> {
     }
 }
 
-/// Returns how many items an iterator begins with, and what it gives where they are taken from the sides of `draws` in turn.
+/// Returns the number of items that an iterator begins with, and the results of taking items from the sides of `draws` in turn.
 pub(crate) fn walked<W: Walk, D: Draw>(
     alloc: Global,
     walk: &mut W,

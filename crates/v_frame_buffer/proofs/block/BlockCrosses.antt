@@ -1,4 +1,4 @@
--- The parts of a block may cross threads where its entries, and its allocator, may.
+-- The parts of a block may cross threads if its entries and its allocator may.
 use Rattle.v_frame_buffer.proofs.Steps.{ℕ, ◌+◌, ◌*◌, List, [], ◌∷◌, full_share, RattleType, ◌==◌, Bool, true, false}
 use Rattle.v_frame_buffer.proofs.Steps.{type_size, Ptr, block_ptr, null_ptr}
 use Rattle.v_frame_buffer.proofs.Steps.{to, IsSend, IsSync, Common, part_keyless, owning_send, struct_sync, sendable}
@@ -27,12 +27,12 @@ module _ (R : RattleType) where
   cells_common y (block_ptr b o) xs n κ = (tt, lent_common y b o xs κ)
   cells_common y null_ptr xs n κ = tt
 
-  -- the entries of a block cross as one of them does
+  -- The entries of a block may be sent if one entry may.
   pub cells_cross : IsSend R → IsSend (Cells.the_row R)
   cells_cross s = owning_send (Cells.the_type R) (search sendable, tt) (λ d. cells_keyless s d.at d.items d.spare)
       (λ k d w. tt)
 
-  -- and are shared as one of them is
+  -- They may be shared if one entry may.
   pub cells_shared : IsSync R → IsSync (Cells.the_row R)
   cells_shared y =
       let O = Cells.the_type R in
@@ -50,13 +50,13 @@ module _ (R : RattleType) where
     token_keyless f alloc p n true = tt
     token_keyless f alloc p n false = f.frees alloc _ p
 
-    -- the right to give a block back crosses as the right to free any block does
+    -- The right to free a block may be sent if the allocator allows any thread to free its blocks.
     pub deed_crosses : FreesAnywhere A.Denot g → IsSend (Deed.the_row R A g)
     deed_crosses f =
         owning_send (Deed.the_type R A g) (search sendable, tt)
         (λ d. token_keyless f d.alloc d.at d.len (d.len * type_size R == 0)) (λ k d w. tt)
 
-    -- a `&` to it says nothing
+    -- A `&` to this right states nothing.
     pub deed_shared : IsSync (Deed.the_row R A g)
     deed_shared =
         let O = Deed.the_type R A g in

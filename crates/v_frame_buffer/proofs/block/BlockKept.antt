@@ -1,4 +1,4 @@
--- A block keeps its room, whatever is written to its entries.
+-- A block keeps its uninitialized memory, whatever is written to its entries.
 use Rattle.std.proofs.Common.{ℕ, List, ◌∙◌}
 use Rattle.v_frame_buffer.specs.Part.{with_part}
 use Rattle.v_frame_buffer.specs.BlockLends.{with_items}

@@ -1,4 +1,4 @@
--- A `&` to a block is made where one to each entry is. Assumes `Logic`.
+-- A `&` to a block is made from a `&` to each of its entries. Assumes `Logic`.
 use Rattle.v_frame_buffer.proofs.Steps.{ℕ, ◌+◌, ◌*◌, List, [], ◌∷◌, length, Ura, full_share, Lft, ftrue, fsep, Logic}
 use Rattle.v_frame_buffer.proofs.Steps.{RattleType, Laws, type_size, Incl, ffalse, RowLaws, part_at, shared_of, Ptr}
 use Rattle.v_frame_buffer.proofs.Steps.{block_ptr, null_ptr, ShrLaws, said, beside_shr_laws, nothing_shr_laws}

@@ -1,4 +1,4 @@
--- A part of a block's entries, as a slice has them, and the `Cells` that it goes back to.
+-- A part of a block's entries in the form that a slice has, and the `Cells` to which it returns.
 use Rattle.v_frame_buffer.proofs.Steps.{◌≡◌, refl, sym, ℕ, ◌+◌, ◌*◌, ◌^◌, ◌<◌, ◌≤◌, arith, List, [], ◌∷◌, ◌++◌, length}
 use Rattle.v_frame_buffer.proofs.Steps.{take, list_drop as drop, length-drop, Ura, full_share, ent, sep, Fml, fsep, Val}
 use Rattle.v_frame_buffer.proofs.Steps.{‵, ◌⊛◌, ◌$◌, ◌∵◌, !, qed, move, use1, use2, split, rewrite, fsplit, fsplit3}
@@ -19,11 +19,11 @@ module _ (R : RattleType) (d : (the_row R).Denot) (start : ℕ) where
   abbrev xs : List R.Denot
   xs = d.items
 
-  -- where the entries from `start` on begin, if the first one lies at o
+  -- The address of the entries from `start` on, if the first entry lies at o.
   abbrev pub from : ℕ → ℕ
   from o = at o (type_size R) (length (take start xs))
 
-  -- d, once a slice of its entries from `start` on showed ws last
+  -- The cells d after a slice of their entries from `start` on had the final value ws.
   abbrev pub rewritten : List R.Denot → (the_row R).Denot
   rewritten ws = with_items d (with_part xs start ws)
 
@@ -34,17 +34,18 @@ module _ (R : RattleType) (d : (the_row R).Denot) (start : ℕ) where
     abbrev behind : List R.Denot
     behind = drop n (drop start xs)
 
-    -- the entries but for the n from `start` on
+    -- All entries except the n entries from `start` on.
     abbrev pub Others : Fml
     Others = fsep (Row behind (at (from o) (type_size R) n)) (Row (take start xs) o)
 
-    -- what a `Cells` d at (rb, ro) owns besides those n: the others, the room, and its one field, which takes no bytes
+    -- The resources of a `Cells` d at (rb, ro) except those n entries: the other entries, the uninitialized memory,
+    -- and its one field, which takes no bytes.
     abbrev pub Around : List Val → (rb ro : ℕ) → Fml
     Around vs rb ro = fsep Others (fsep (room_at R b (length xs * type_size R + o) d.spare)
         (fsep ((Struct (shape (the_type R))).own_val (tt, tt) vs) (cell_at full_share (the_row R).mir vs rb ro)))
 
     module _ {M : Type 1} {𝓤 : Ura M} (𝓛 : Logic 𝓤) where
-      -- the part comes out of the entries
+      -- The part is taken out of the entries.
       pub part_out : start + n ≤ length xs → ent 𝓤 (sem 𝓛 (entries_at R b o xs))
           (sep 𝓤 (sem 𝓛 (Row (take n (drop start xs)) (from o))) (sem 𝓛 Others))
       part_out within =
@@ -59,7 +60,7 @@ module _ (R : RattleType) (d : (the_row R).Denot) (start : ℕ) where
           (cut_app 𝓛 (mem R) part behind b (from o)) $ split ! $
           rewrite ! 1 (λ (k : ℕ). ‵ (Row behind (at (from o) (type_size R) k))) count refl $ done !
 
-      -- with as many entries in the place of the part, a `Cells` is whole
+      -- With as many entries in place of the part, a `Cells` is whole again.
       pub part_in : (vs : List Val) (rb ro : ℕ) → d.at ≡ block_ptr b o → (length xs + d.spare) * type_size R < 2 ^ 63
           → start + n ≤ length xs → (ws : List R.Denot) → length ws ≡ n
           → ent 𝓤 (sep 𝓤 (sem 𝓛 (Row ws (from o))) (sem 𝓛 (Around vs rb ro)))
@@ -77,7 +78,7 @@ module _ (R : RattleType) (d : (the_row R).Denot) (start : ℕ) where
           use2 𝓛 (‵ (Row (ws ++ rest) (from o))) (join_app 𝓛 (mem R) ws rest b (from o)) $ move ! (1 ∷ 0 ∷ []) $
           use2 𝓛 (‵ (Row new o)) (join_app 𝓛 (mem R) (take start xs) (ws ++ rest) b o) $
           rewrite ! 0 (λ (f : Fml). ‵ f) (sym (entries_are_cells R b new o)) refl $ move ! (1 ∷ []) $ fsplit3 ! $
-          -- [the room; the marker; its cell; the entries]
+          -- Context: [the uninitialized memory; the marker; its cell; the entries]
           rewrite ! 0 (λ (k : ℕ). ‵ (room_at R b (k * s + o) d.spare)) (sym long) refl $ move ! (3 ∷ 0 ∷ []) $ fjoin ! $
           flt_i ! ((length new + d.spare) * s) (2 ^ 63) (subst (λ k. (k + d.spare) * s < 2 ^ 63) (sym long) small) $
           fjoin ! $

@@ -1,5 +1,5 @@
--- What the proofs of `aligned/block.rt` share: facts joined, a product with a size, the parts as rows of the logic, and
--- room for entries. Assumes `Logic`.
+-- Lemmas for all proofs of `aligned/block.rt`: facts that are joined, a product with a size, the parts as types of
+-- the logic, and memory for entries. Assumes `Logic`.
 use Rattle.v_frame_buffer.proofs.Steps.{◌≡◌, refl, sym, ◌∙◌, ℕ, ◌+◌, ◌*◌, Ura, Val, vstruct, vcons, vnil, SProp, ent}
 use Rattle.v_frame_buffer.proofs.Steps.{sep, emp, wand, fact, mono_r, fst∗, via, froom, Logic, sem, ‵, ◌$◌, ◌∵◌, !, qed}
 use Rattle.v_frame_buffer.proofs.Steps.{by, move, rewrite, RattleType, zero-mul, add_comm, ty_array, Struct, type_size}
@@ -18,16 +18,16 @@ use Rattle.v_frame_buffer.specs.contracts.aligned.block.Cells as Cells
 use Rattle.v_frame_buffer.specs.contracts.aligned.block.Deed as Deed
 use Rattle.v_frame_buffer.proofs.CallSteps.{both_facts}
 
--- the machine value of a part that takes no space: the marker
+-- The machine value of a part of size zero: the marker.
 abbrev pub no_bytes : Val
 no_bytes = vstruct (vcons (vstruct vnil) vnil)
 
--- a fact besides others is one fact more
+-- A fact beside other facts is one more fact.
 pub one_more_fact : {M : Type 1} (𝓤 : Ura M) (φ : Type 0) {P : SProp 𝓤} {ψ : Type 0} → ent 𝓤 P (fact 𝓤 ψ) → ent 𝓤
     (sep 𝓤 (fact 𝓤 φ) P) (fact 𝓤 (φ × ψ))
 one_more_fact 𝓤 φ {P} {ψ} said = via 𝓤 (sep 𝓤 (fact 𝓤 φ) (fact 𝓤 ψ)) (mono_r 𝓤 (fact 𝓤 φ) said) (both_facts 𝓤 φ ψ)
 
--- the product of a number and the size of a type, where it fits
+-- The product of a number and the size of a type, if it fits.
 module _ {M : Type 1} {𝓤 : Ura M} {𝓛 : Logic 𝓤} {K : Type 0} {Γ : List (Item 𝓤)} {Ev : Env 𝓤 𝓛.H} where
   pub counted : K → {x : Opd} {τ : Ty} (n : ℕ) → n * size τ < 2 ^ 64 → Reads K 𝓛 Γ Ev x (vint w64 n)
       → Rv K 𝓛 Γ Ev (op2 (mul unsigned) x (size_of τ)) (vint w64 (n * size τ))
@@ -36,23 +36,23 @@ module _ {M : Type 1} {𝓤 : Ura M} {𝓛 : Logic 𝓤} {K : Type 0} {Γ : List
       is t (bin t x (size_word t) (record { fits = subst (λ k. k < 2 ^ 64) (sym same) fits })) (ap (vint w64) same)
 
 module _ (E : El) where
-  -- a `Base`, as the logic describes it
+  -- A `Base`, as the logic describes it.
   abbrev pub Bases : RattleType
   Bases = Base.the_row (R E)
 
-  -- a `Cells`
+  -- A `Cells`, as the logic describes it.
   abbrev pub Kept : RattleType
   Kept = Cells.the_row (R E)
 
-  -- a `Deed`, at the allocator Z
+  -- A `Deed` for the allocator Z, as the logic describes it.
   abbrev pub Deeds : Al → RattleType
   Deeds Z = Deed.the_row (R E) (P E Z) Z.g
 
-  -- what a `Cells` and a `Deed` hold as machine values
+  -- The machine values of a `Cells` and a `Deed`.
   abbrev pub Marks : RattleType
   Marks = Struct (shape (Cells.the_type (R E)))
 
-  -- the bytes of an entry
+  -- The size of an entry in bytes.
   abbrev pub wide : ℕ
   wide = type_size (R E)
 
@@ -62,7 +62,7 @@ module _ (E : El) where
     abbrev Room : ℕ → ℕ → ℕ → SProp 𝓤
     Room n b o = H.room (ty_array (elτ E) n) b o
 
-    -- room that takes no bytes is made of nothing, anywhere
+    -- Memory of zero bytes exists at every address.
     pub no_room : (n b o : ℕ) → n * wide ≡ 0 → ent 𝓤 (emp 𝓤) (Room n b o)
     no_room n b o none =
         via 𝓤 (Room 0 b o) (𝓛.laws.room_nil (elτ E) b o)
@@ -70,7 +70,7 @@ module _ (E : El) where
         (dv_self (align (elτ E))))
         (fst∗ 𝓤 (Room n b o) (wand 𝓤 (Room n b o) (Room 0 b o))))
 
-    -- room for m entries, and for n after them
+    -- Memory for m entries, and memory for n entries after them.
     pub room_joined : (m n t b o : ℕ) → m + n ≡ t → ent 𝓤
         (sep 𝓤 (Room m b o) (sem 𝓛 (room_at (R E) b (m * wide + o) n))) (Room t b o)
     room_joined m n t b o e =

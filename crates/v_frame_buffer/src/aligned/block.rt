@@ -1,8 +1,9 @@
-//! The block of memory behind a buffer: five functions, the only ones that use pointers.
+//! The block of memory behind a buffer: five functions, which are the only ones that use pointers.
 //!
-//! A block is held as three parts, so that each function takes what it needs: where it begins, which may be copied and owns
-//! nothing; its entries with the room after them; and the right to give it back. The last two take no space. In a contract
-//! they say the address that they belong to, so no two blocks are mixed.
+//! A block is represented by three parts, so that each function takes only the parts that it needs. `Base` is the address,
+//! which can be copied and owns nothing. `Cells` owns the entries and the uninitialized memory after them. `Deed` is the right
+//! to free the block. `Cells` and `Deed` have size zero. In contracts they name the address that they belong to, so that parts
+//! of different blocks cannot be confused.
 ghost use Rattle.std.specs.Prelude.{◌≡◌, ℕ, ◌+◌, ◌*◌, ◌<◌, List, [], ◌∷◌, ◌++◌, ◌≤◌, length, slice_range, IfOk, IsOk, ⊤};
 ghost use Rattle.std.specs.Borrow.{sem};
 ghost use Rattle.std.specs.Mem.{type_size};
@@ -16,7 +17,7 @@ use std::marker::{Model, PhantomData, Send, Sync};
 use std::mem::{align_of, size_of};
 use std::slice;
 
-/// Where a block begins. It owns nothing.
+/// The address at which a block begins. It owns nothing.
 pub(super) struct Base<T> {
     ptr: *mut T,
 }
@@ -37,7 +38,7 @@ unsafe impl<T> Send for Base<T> {}
 
 unsafe impl<T> Sync for Base<T> {}
 
-/// The entries of a block, those that were written first, and the room after them. It takes no space.
+/// The entries of a block, in the order in which they were written, and the uninitialized memory after them. Its size is zero.
 pub(super) struct Cells<T> {
     mark: PhantomData<*const T>,
     pub(super) ghost at: { Ptr },
@@ -55,7 +56,7 @@ unsafe impl<T: Send> Send for Cells<T> {}
 
 unsafe impl<T: Sync> Sync for Cells<T> {}
 
-/// The right to give the block of `len` entries at `at` back to `alloc`. It takes no space.
+/// The right to free the block of `len` entries at the address `at`, which `alloc` allocated. Its size is zero.
 pub(super) struct Deed<T, A: Allocator> {
     mark: PhantomData<*const (T, A)>,
     pub(super) ghost at: { Ptr },
@@ -71,10 +72,10 @@ impl<T, A: Allocator> Model for Deed<T, A> {
 
 unsafe impl<T, A: Allocator + Send> Send for Deed<T, A> {}
 
-// A `&` to it holds nothing.
+// A shared reference to it owns nothing.
 unsafe impl<T, A: Allocator> Sync for Deed<T, A> {}
 
-/// Room for `len` entries. Where these take no bytes, no memory is requested.
+/// Allocates memory for `len` entries. If the entries take no bytes, no memory is requested.
 pub(super) fn allocate<T, A: Allocator>(
     alloc: &A,
     len: usize,
@@ -100,7 +101,7 @@ pub(super) fn allocate<T, A: Allocator>(
     ))
 }
 
-/// Drops the entries, each once and from the first on, and gives the memory back.
+/// Drops the entries, each once and in order, and frees the memory.
 pub(super) fn deallocate<T: Drop, A: Allocator>(
     alloc: &A,
     base: Base<T>,
@@ -130,7 +131,7 @@ pub(super) fn deallocate<T: Drop, A: Allocator>(
 impl<T> Cells<T> {
     ghost use Rattle.v_frame_buffer.specs.BlockLends.{LendsItems};
 
-    /// Writes the entry at index `place`, after those that were written.
+    /// Writes the entry at index `place`, which is the first unwritten one.
     pub(super) fn write_next(&mut self, base: Base<T>, place: usize, entry: T)
         requires { (base.ptr ≡ self.old.at) × (length self.old.items ≡ place) × (0 < self.old.spare) }
         ensures items { (self.new.at ≡ self.old.at) × (self.new.items ≡ self.old.items ++ entry ∷ []) }
@@ -139,7 +140,7 @@ impl<T> Cells<T> {
         unsafe { base.ptr.add(place).write(entry) }
     }
 
-    /// Returns the entries, which are `len` many.
+    /// Returns the entries. Their number is `len`.
     pub(super) fn slice(&self, base: Base<T>, len: usize) -> &[T]
         requires { (base.ptr ≡ self.now.at) × (length self.now.items ≡ len) }
         ensures { result.now ≡ self.now.items }
@@ -147,7 +148,7 @@ impl<T> Cells<T> {
         unsafe { slice::from_raw_parts(base.ptr as *const T, len) }
     }
 
-    /// Returns the entries from `start` up to `end`, for writing.
+    /// Returns the entries from index `start` up to, but excluding, index `end` for writing.
     pub(super) fn slice_mut(&mut self, base: Base<T>, start: usize, end: usize) -> &mut [T]
         requires base { base.ptr ≡ self.old.at }
         requires order { start ≤ end }

@@ -1,4 +1,4 @@
-//! A block of memory while it is being filled.
+//! A block of memory that is being filled.
 ghost use Rattle.std.specs.Prelude.{◌≡◌, ◌+◌, ◌<◌, [], ◌∷◌, ◌++◌, IsOk, IfOk};
 ghost use Rattle.v_frame_buffer.specs.Filling.{filled_with};
 
@@ -8,8 +8,8 @@ use std::alloc::{AllocError, Global};
 use std::marker::Model;
 use std_alloc::room::may_hold;
 
-/// A block that is being filled, from index 0 on. Where it is dropped early, it drops what was written and gives the memory
-/// back.
+/// A block that is being filled from index 0. If it is dropped before it is full, it drops the written entries and frees the
+/// memory.
 pub(super) struct Filling<T> {
     base: Base<T>,
     written: usize,
@@ -32,7 +32,7 @@ impl<T> Model for Filling<T> {
 }
 
 impl<T> Filling<T> {
-    /// Returns a block with room for `len` entries, none of which is written. Room for no entries is never refused.
+    /// Returns a block for `len` entries, none of which is written. For `len` 0 this never fails.
     pub(super) fn new(alloc: Global, len: usize) -> Result<Self, AllocError>
         ensures room { IfOk result (λ f. f ≡ filled_with [] len) }
         ensures no_entries { len ≡ 0 → IsOk result }
@@ -62,7 +62,7 @@ impl<T> Filling<T> {
         self.written += 1;
     }
 
-    /// Returns the buffer, once every entry is written.
+    /// Returns the buffer, after every entry has been written.
     pub(super) fn finish(self) -> AlignedData<T>
         requires { self.spare ≡ 0 }
         ensures { result ≡ self.items }
@@ -85,7 +85,7 @@ impl<T> Filling<T> {
     }
 }
 
-/// Drops what was written, and gives the memory back.
+/// Drops the written entries and frees the memory.
 impl<T: Drop> Drop for Filling<T> {
     fn drop(self) {
         let Filling {

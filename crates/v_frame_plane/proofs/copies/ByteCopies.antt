@@ -1,4 +1,4 @@
--- What decides a copy of bytes: its stride, then the length that is asked for, which a `usize` may not hold.
+-- The checks of a copy of bytes: first its stride, then the required length, which may not fit into a `usize`.
 use Rattle.std.proofs.Common.{ℕ, ◌≡◌, ◌*◌, ◌^◌, ◌-◌, ◌<◌, ◌≤◌, true, false, not, nat_eq, eqb, min, List, length, Option}
 use Rattle.std.proofs.Common.{Some, None, Ok, Err, unwrap_or, SomeIff, refl, sym, ◌∙◌, arith}
 use Rattle.std.proofs.lemmas.Bool.{lt-ltb, le-ltb}
@@ -14,7 +14,7 @@ use Rattle.v_frame_plane.specs.declared.error.CopyError.TheVariants.{DataLength,
 use Rattle.v_frame_plane.proofs.copies.ByteLaws.{accepted_copy}
 use Rattle.v_frame_raster.proofs.tables.Sizes.{width_of_shown, height_of_shown}
 
--- a product that is asked for, as it was counted, and a length that was found
+-- A required product, as the code computes it, and the length that was found.
 pub asked_is_found : (asked : Option ℕ) (product found : ℕ) → SomeIff asked (product < 2 ^ 64) product → not
     (option_eq nat_eq asked (Some found)) ≡ false →
     found ≡ product
@@ -32,7 +32,7 @@ pub asked_is_told : (asked : Option ℕ) (product : ℕ) → SomeIff asked (prod
 asked_is_told None product counted = let h : (product < 2 ^ 64 → ⊥) = counted in omega arith
 asked_is_told (Some n) product counted = omega arith
 
--- the sizes of the plane, as the code reads them, are those of its table
+-- The sizes of the plane, as the code reads them, are those of its table.
 module _ {T : Type 0} (form : PixelForm T) (p : Raster T) (source : List ℕ) (stride width height : ℕ)
     (some_row : 0 < p.geometry.height) (whole :
     length p.buffer ≡ alloc_size_of p.geometry) (w : width ≡ p.geometry.width) (h : height ≡ p.geometry.height) where
@@ -42,13 +42,13 @@ module _ {T : Type 0} (form : PixelForm T) (p : Raster T) (source : List ℕ) (s
   high : height_of (table_of p) ≡ height
   high = height_of_shown p ∙ sym h
 
-  -- the stride holds no row
+  -- The stride is less than the size of a row.
   pub refused_by_stride : stride < width * form.size → strided_copy form (table_of p) source stride ≡
       record { answer = Err (InvalidStride stride width); table = table_of p }
   refused_by_stride below = rw (wide, lt-ltb stride (width * form.size) below) refl
 
   module _ (fits : width * form.size ≤ stride) where
-    -- the source has another length
+    -- The length of the source is wrong.
     pub refused_by_length : (length source ≡ stride * height → ⊥) → strided_copy form (table_of p) source stride ≡
         record { answer = Err (DataLength (min (stride * height) usize_max) (length source)); table = table_of p }
     refused_by_length other =

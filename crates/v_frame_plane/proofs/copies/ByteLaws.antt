@@ -1,4 +1,4 @@
--- Laws of copies of bytes: the bytes come back, and for pixels of one byte the two packed copies are one.
+-- Laws of copies of bytes: the bytes come back, and for pixels of one byte both packed copies are equal.
 use Rattle.std.proofs.Common.{ℕ, zero, suc, ◌≡◌, ◌*◌, ◌^◌, ◌<◌, ◌≤◌, min, List, length, take, drop, map, Result, Ok}
 use Rattle.std.proofs.Common.{Err, OnOk, inl, inr, refl, sym, ◌∙◌, ap, arith, eq-eqb, length-drop, length-take-le}
 use Rattle.std.proofs.lemmas.Bool.{cases_lt, lt-ltb, le-ltb}
@@ -15,7 +15,7 @@ use Rattle.v_frame_raster.proofs.tables.BytesBack.{AreBytes, table_comes_back}
 use Rattle.v_frame_raster.proofs.tables.CutRows.{row_major-cut_rows}
 
 module _ {T : Type 0} where
-  -- a copy that neither test refuses is done
+  -- A copy that passes both checks succeeds.
   pub accepted_copy : (form : PixelForm T) (table : Table T) (source : List ℕ) (stride width height : ℕ) → width_of
       table ≡ width → height_of table ≡ height →
       width * form.size ≤ stride → length source ≡ stride * height
@@ -24,7 +24,7 @@ module _ {T : Type 0} where
   accepted_copy form table source stride width height w h fits whole =
       rw (w, h, le-ltb stride (width * form.size) fits, eq-eqb (length source) (stride * height) whole) refl
 
-  -- and one that is done was refused by neither
+  -- A copy that succeeds has passed both checks.
   module _ (form : PixelForm T) (table : Table T) (source : List ℕ) (stride : ℕ)
       (done : (strided_copy form table source stride).answer ≡ Ok tt) where
     tests : (width_of table * form.size ≤ stride) × (length source ≡ stride * height_of table)
@@ -44,7 +44,7 @@ module _ {T : Type 0} where
   module _ (form : PixelForm T) (back : (v : ℕ) → v < 256 ^ form.size → form.value (form.pixel_of v) ≡ v)
       (old new : Table T) (source : List ℕ) (bytes :
       AreBytes source) where
-    -- after a copy with a stride the bytes of the table are the fronts of the pieces, joined
+    -- After a copy with a stride, the bytes of the table are the fronts of the pieces, joined.
     pub strided_bytes : (stride : ℕ) (r : Result (Unit {0}) CopyError) → r ≡
         (strided_copy form old source stride).answer →
         new ≡ (strided_copy form old source stride).table
@@ -57,7 +57,7 @@ module _ {T : Type 0} where
         ap (byte_list form) (table ∙ done_table form old source stride done) ∙
         table_comes_back form back (width_of old) (height_of old) stride source passed.0 passed.1 bytes
 
-    -- after a packed one they are the source
+    -- After a packed copy, the bytes of the table are the source.
     pub packed_bytes : (r : Result (Unit {0}) CopyError) → r ≡ (packed_byte_copy form old source).answer → new ≡
         (packed_byte_copy form old source).table
         → OnOk r (byte_list form new ≡ source)
@@ -68,7 +68,7 @@ module _ {T : Type 0} where
         strided_bytes row (Ok u) answer table ∙ ap row_major (fronts_of_packed row (height_of old) source) ∙
         row_major-cut_rows row (height_of old) source (tests form old source row done).1
 
--- rows of pixels of one byte are the pieces of the source
+-- Rows of one-byte pixels are the pieces of the source.
 one_byte_rows : (width height : ℕ) (source : List ℕ) → length source ≡ width * height →
     map (pixels_of_bytes one_byte width) (cut_rows width height source) ≡ cut_rows width height source
 one_byte_rows width zero source long = refl
@@ -78,7 +78,7 @@ one_byte_rows width (suc height) source long =
     (one_byte_pixels (take width source)) in
     rw (row, one_byte_rows width height (drop width source) (omega (arith, length-drop width source))) refl
 
--- for pixels of one byte the two packed copies are one, where the pixels of the table can be counted
+-- For pixels of one byte, both packed copies are equal if the number of pixels of the table fits into a `usize`.
 pub one_byte_copies : (table : Table ℕ) (source : List ℕ) → width_of table * height_of table ≤ usize_max →
     packed_byte_copy one_byte table source ≡ packed_copy table source
 one_byte_copies table source counted =

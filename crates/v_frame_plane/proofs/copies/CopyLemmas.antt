@@ -1,4 +1,4 @@
--- What decides a copy of pixels: the sizes of the plane.
+-- The check of a copy of pixels: the sizes of the plane.
 use Rattle.std.proofs.Common.{ℕ, ◌≡◌, ◌*◌, ◌<◌, eqb, false, eq-eqb, List, length, Ok}
 use Rattle.std.proofs.Common.{Err, refl, sym, arith}
 use Rattle.std.proofs.lemmas.Bool.Decides.{nat_tests}
@@ -10,7 +10,7 @@ use Rattle.v_frame_plane.specs.declared.error.CopyError.TheVariants.{DataLength}
 use Rattle.v_frame_raster.proofs.tables.Sizes.{width_of_shown, height_of_shown}
 
 module _ {T : Type 0} where
-  -- a copy is decided by the sizes of the plane
+  -- The outcome of a copy depends on the sizes of the plane.
   module _ (p : Raster T) (source : List T) (expected : ℕ) (high : 0 < p.geometry.height)
       (whole : length p.buffer ≡ alloc_size_of p.geometry) (e : expected ≡ p.geometry.width * p.geometry.height) where
     pixels : width_of (table_of p) * height_of (table_of p) ≡ expected

@@ -1,4 +1,5 @@
--- An iterator over bytes as a pixel that was begun from the front, pixels, and a pixel that was begun from the back.
+-- An iterator over bytes consists of a pixel that was begun from the front, further pixels, and a pixel that was
+-- begun from the back.
 use Rattle.std.proofs.Common.{ℕ, Bool, true, false, ◌≡◌, ◌+◌, ◌*◌, ◌^◌, ◌<◌, ◌≤◌, List, [], ◌∷◌, ◌++◌, length, Option}
 use Rattle.std.proofs.Common.{Some, None, is_some, refl, arith, append_assoc, length-append}
 use Rattle.std.proofs.Math.Nat.{mul-le-mul_left, mul-le-mul_right}
@@ -10,7 +11,7 @@ use Rattle.v_frame_plane.specs.Cursor.{other_byte, bytes_ahead, PixelsAreBegun}
 use Rattle.v_frame_raster.proofs.Plans.{origin_within}
 use Rattle.v_frame_raster.proofs.PixelBytes.{length-bytes_from}
 
--- the bytes of a row can be counted
+-- The number of bytes of a row fits into a `usize`.
 pub row_bytes : (g : Geometry) (size : ℕ) → 0 < g.height → Fits g → size < 3 → g.width * size < 2 ^ 64
 row_bytes g size high fits small =
     let few : size ≤ 2 = omega arith in
@@ -39,14 +40,14 @@ module _ {T : Type 0} (form : PixelForm T) where
       (is_some back)
   count_of_bytes front pixels back = simp (length-append, length-bytes_of_pixels, count_of_other) (omega arith)
 
-  -- pixels of two bytes at most
+  -- Pixels have at most two bytes.
   pub few_bytes : (pixels : List T) → form.size < 3 → 2 * length pixels < 2 ^ 63 → length pixels * form.size < 2 ^ 63
   few_bytes pixels small bound =
       let all : form.size * length pixels ≤ 2 * length pixels = mul-le-mul_right (length pixels) (omega arith) in
       omega arith
 
 module _ {T : Type 0} (size : ℕ) where
-  -- where fewer pixels are left, their bytes can be counted as well
+  -- If fewer pixels remain, the number of their bytes fits too.
   pub few_left : (pixels rest : List T) → length rest ≤ length pixels → size * length pixels < 2 ^ 63 → size * length
       rest < 2 ^ 63
   few_left pixels rest less bound = omega (arith, mul-le-mul_left size less)
@@ -55,5 +56,5 @@ module _ {T : Type 0} (size : ℕ) where
       size front pixels back
   none_left front back pixels f e b = rw (f, e, b) record { low_drawn = tt; high_drawn = tt; bound = omega arith }
 
--- for calls that take a byte
+-- Rules for calls that take a byte.
 pub ruleset bytes_taken = (none_left, few_left, append_assoc, flat_map-append, length-append)

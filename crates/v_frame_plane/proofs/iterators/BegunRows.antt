@@ -1,4 +1,5 @@
--- An iterator over pixels as a row that was begun from the front, rows, and a row that was begun from the back.
+-- An iterator over pixels consists of a row that was begun from the front, further rows, and a row that was begun
+-- from the back.
 use Rattle.std.proofs.Common.{All, Some, ◌≡◌, ◌+◌, ◌*◌, ◌^◌, ◌<◌, ◌≤◌, List, [], ◌∷◌, ◌++◌, length, refl, ap, arith}
 use Rattle.std.proofs.Common.{append-nil, append_assoc, length-append}
 use Rattle.std.proofs.lemmas.List.{nil_from_length}
@@ -19,7 +20,7 @@ module _ {T : Type 0} where
   row_major-push : (rows : List (List T)) (row : List T) → row_major (rows ++ row ∷ []) ≡ row_major rows ++ row
   row_major-push rows row = simp (row_major-append, append-nil)
 
-  -- one of the rows was drawn, and these are left
+  -- One of the rows was taken, and these rows remain.
   pub record IsDrawn (rows : List (List T)) (row : List T) (rest : List (List T)) : Type 0 where
     pub full : All IsFull rows → IsFull row × All IsFull rest
     pub count : length (row_major rows) ≡ length row + length (row_major rest)
@@ -36,7 +37,7 @@ module _ {T : Type 0} where
     count = rw (e, row_major-push rest row) (omega (arith, length-append (row_major rest) row));
   }
 
-  -- then its pixels can be counted with the others, and so they can where no row is left
+  -- Taking a row keeps the pixels countable. So does a call for which no row remains.
   pub drawn_countable : {front back row : List T} {rows rest : List (List T)} → PixelsAreCountable front rows back →
       IsDrawn rows row rest →
       (begun left : List T) → length begun + length left ≤ length front + length row + length back → PixelsAreCountable
@@ -50,14 +51,14 @@ module _ {T : Type 0} where
   none_countable before none begun left few = rw none record
       { full = All-nil IsFull; bound = omega (arith, before.bound, few) }
 
-  -- the pixels that are left are the same once the last row was begun
+  -- Beginning the last row does not change the remaining pixels.
   pub last_row_left : (front back row : List T) (rows rest : List (List T)) → length back ≡ 0 → rows ≡ rest ++ row ∷ []
       →
       front ++ (row_major rest ++ row) ≡ front ++ (row_major rows ++ back)
   last_row_left front back row rows rest none e = rw
       (nil_from_length back none, e, append-nil, row_major-push rest row) refl
 
-  -- all rows of a plane can be iterated
+  -- All rows of a plane can be iterated over.
   pub visible_countable : (p : Raster T) → 0 < p.geometry.width → IsWhole p.geometry p.buffer → PixelsAreCountable []
       (table_of p) []
   visible_countable p wide is =
@@ -75,7 +76,7 @@ module _ {T : Type 0} where
         );
       }
 
-  -- a plane shows as many pixels as its rectangle has
+  -- The number of pixels that a plane shows is its visible width times its visible height.
   pub visible_pixels : (p : Raster T) → IsWhole p.geometry p.buffer → length (row_major (table_of p)) ≡
       p.geometry.width * p.geometry.height
   visible_pixels p is =
@@ -86,6 +87,6 @@ module _ {T : Type 0} where
             (λ n. n * p.geometry.width) (length-shown p),
       )
 
-  -- and their bytes, of which each has two at most, can be counted
+  -- The number of their bytes fits, because each pixel has at most two.
   pub visible_few : (p : Raster T) → IsWhole p.geometry p.buffer → 2 * length (row_major (table_of p)) < 2 ^ 63
   visible_few p is = omega (arith, is.fits, visible_within p.geometry, visible_pixels p is)

@@ -1,4 +1,4 @@
--- Rows that lie ahead in a slice: the first and the last of them, and that those of a whole buffer are the visible
+-- Rows that lie ahead in a slice: the first and the last of them. The rows ahead of a whole buffer are the visible
 -- ones.
 use Rattle.std.proofs.Common.{ℕ, zero, suc, ◌≡◌, ◌+◌, ◌-◌, ◌*◌, ◌^◌, ◌<◌, ◌≤◌, List, [], ◌∷◌, ◌++◌, length, take, drop}
 use Rattle.std.proofs.Common.{Some, slice_get, refl, sym, ◌∙◌, ap}
@@ -21,7 +21,7 @@ module _ {T : Type 0} where
   count_of_rows start width gap zero xs = refl
   count_of_rows start width gap (suc count) xs = ap suc (count_of_rows gap width gap count (drop width (drop start xs)))
 
-  -- rows that lie within a slice have all their width
+  -- Rows that lie within a slice have their full width.
   pub rows_are_long : (start width gap count : ℕ) (xs : List T) →
       (0 < count → start + count * (width + gap) ≤ length xs + gap) →
       All (λ row. length row ≡ width) (rows_ahead start width gap count xs)
@@ -52,7 +52,7 @@ module _ {T : Type 0} where
       let e : count ≡ suc (count - 1) = omega arith in
       ap (λ n. rows_ahead start width gap n xs) e
 
-  -- what lies after the first row, in front of the last one and from there on
+  -- The entries after the first row, the entries before the last row, and the entries from there on.
   pub behind_first : (start width gap count : ℕ) (xs : List T) → let last = start + suc count * (width + gap) in let
       behind = gap + count * (width + gap) in
       (drop width (drop start (take last xs)) ≡ take behind (drop width (drop start xs))) ×
@@ -63,7 +63,7 @@ module _ {T : Type 0} where
       rw (e, drop-take, drop-take, drop-drop behind width (drop start xs), drop-drop (width + behind) start xs)
       (refl, refl)
 
-  -- the last row lies after what the others take
+  -- The last row lies after the entries of the other rows.
   last_of_more : (start width gap count : ℕ) (xs : List T)
       → rows_ahead start width gap (suc count) xs ≡ rows_ahead start width gap count
       (take (start + count * (width + gap)) xs) ++
@@ -101,7 +101,7 @@ module _ {T : Type 0} where
         e,
       ) refl
 
-  -- the rows ahead of the origin of a whole buffer are its visible ones
+  -- The rows ahead of the origin of a whole buffer are the visible rows.
   pub visible_rows : (g : Geometry) (xs : List T) (start width gap count : ℕ) → start ≡ origin_of g → width ≡ g.width →
       gap ≡ stride_of g - g.width →
       count ≡ g.height
@@ -117,15 +117,15 @@ module _ {T : Type 0} where
       (arith, place_of_row g y (omega arith), ap (λ k. y * k) stride) in
       rw (slice_get-rows_ahead start width gap count xs y low, shown_row p y (omega arith), at, w) refl)
 
--- how many rows an iterator has left
+-- The number of rows that remain in an iterator.
 pub count_left : {T : Type 0} (walk : RowsMut T) → length (rows_left walk) ≡ walk.count
 unfolding rows_left
 count_left walk = count_of_rows walk.start walk.width walk.gap walk.count walk.rest.now
 
--- for calls that take a row
+-- Rules for calls that take a row.
 pub ruleset rows_taken = (no_rows, first_row, last_row, count_of_rows)
 
--- and these rows lie within it
+-- These rows lie within the buffer.
 pub rows_within : (g : Geometry) (start width gap count : ℕ) → 0 < g.height → start ≡ origin_of g → width ≡ g.width →
     gap ≡ stride_of g - g.width →
     count ≡ g.height
@@ -138,6 +138,6 @@ rows_within g start width gap count high s w n c =
     (λ k. (last + 1) * k) stride ∙ omega arith in
     omega (arith, place_of_row g last high, row_within g last (omega arith))
 
--- a plane has no more rows than its buffer has entries
+-- A plane has at most as many rows as its buffer has entries.
 pub few_rows : {T : Type 0} (p : Raster T) → 0 < p.geometry.width → Fits p.geometry → length (table_of p) < 2 ^ 63
 few_rows p wide fits = omega (arith, length-shown p, visible_within p.geometry, mul-le-mul_right p.geometry.height wide)

@@ -1,4 +1,4 @@
--- What calls from one end give, at an iterator that is seen as the list of the items left.
+-- The items that calls from one end yield, for an iterator that is seen as the list of the remaining items.
 use Rattle.std.proofs.Common.{List, [], ◌∷◌, length, Option, Some, None, ap, arith, length-append}
 use Rattle.std.proofs.iter.runs.Sources.{from_front, from_back, as_is, as_is_back}
 use Rattle.std.specs.Iterator.{YieldsFirstMut, YieldsLastMut, MakesProgress, at_most}
@@ -12,7 +12,7 @@ module _ {A X : Type 0} (shows : A → X) where
   pub shows_in_reverse : ShowsInReverse shows
   shows_in_reverse = from_back (TakesLast shows) shows (λ s. s) (λ s t h. ap length h.0) (λ s x t h. h)
 
-  -- such a call makes progress: it leaves one item fewer, or there was none
+  -- Such a call makes progress: one item fewer remains, or there was none.
   pub first_taken : (can : List X → Type 0) (items left : List X) (r : Option A) → can left → TakesFirst shows items r
       left →
       MakesProgress can (λ rest. at_most (length rest)) items r left
@@ -37,7 +37,7 @@ module _ {X : Type 0} where
   pub gives_in_reverse : GivesInReverse X
   gives_in_reverse p s = as_is_back p p.from (shows_in_reverse (λ x. x) p s)
 
--- the same, at an iterator whose items are `&mut`
+-- The same lemmas for an iterator whose items are mutable references.
 module _ {S X : Type 0} (rest : S → List X) where
   pub lends_in_order : YieldsMutRefsInOrder (YieldsFirstMut rest) rest
   lends_in_order = from_front (YieldsFirstMut rest) (λ x. x.now) rest (λ s t h. ap length h.0) (λ s x t h. h)

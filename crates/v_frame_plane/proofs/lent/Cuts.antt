@@ -1,9 +1,10 @@
--- A call of `split_at_mut`, for a proof by hand. Assumes `Logic`.
--- splits       the slice goes to the call, and ends as its two parts do.        pointer_on, slice_on     a part is lent
--- on
--- slice_fits, slices_fit, word_fits     what code stores is well typed.        dropped, lets_go      a part that is not
--- used ends as it is
---     joins     from what both parts end as, what the slice does.        both_end     that it ends as both parts say
+-- A call of `split_at_mut` in a hand-written proof. Assumes `Logic`.
+-- - splits: the slice is passed to the call, and its final value follows from those of its two parts.
+-- - pointer_on, slice_on: a part is passed on.
+-- - slice_fits, slices_fit, word_fits: the stored values are well typed.
+-- - dropped, lets_go: an unused part keeps its current value.
+-- - joins: the final slice, computed from the final values of both parts.
+-- - both_end: the final slice is determined by both parts.
 use Rattle.v_frame_buffer.proofs.Steps.{ℕ, ◌≡◌, ◌+◌, ◌^◌, ◌<◌, ◌≤◌, List, [], ◌∷◌, ◌++◌, length, take, list_drop, w64}
 use Rattle.v_frame_buffer.proofs.Steps.{MutBor, refl, ap, Lft, Share, flft, SProp, id⊢, ◌⊑◌, Fun, fact, Array, usize}
 use Rattle.v_frame_buffer.proofs.Steps.{shows, param, uint_vals, uint_Makes, RattleType, MutSlice, slice_val, heard}
@@ -27,7 +28,7 @@ use Rattle.v_frame_plane.specs.FinalRows.{EndsAs}
 use Rattle.v_frame_buffer.proofs.CallSteps.{asks_both, calls}
 use Rattle.v_frame_buffer.proofs.Loans.{at_one}
 
--- a slice as code has it, and two of them, are well typed where their lengths fit, wherever they lie
+-- A slice in the form that code has, and two slices, are well typed at any address if their lengths fit.
 abbrev At : ℕ → Val
 At n = vstruct (vcons (vptr 0 0) (vcons (vint w64 n) vnil))
 
@@ -44,12 +45,13 @@ pub slices_fit : {n k : ℕ} → n < 2 ^ 64 → k < 2 ^ 64 → let v = vstruct (
     T (has_ty (ty_struct [] (tcons Part (tcons Part tnil))) v) × WT v
 slices_fit one two = (tt, ((tt, (record { fits = one }, tt)), ((tt, (record { fits = two }, tt)), tt)))
 
--- the whole ends as its front and its back do, joined
+-- The final whole is the final front followed by the final back.
 abbrev pub Joins : (T : RattleType) → (whole front back : MutBor (List T.Denot)) → Fml
 Joins T whole front back = follows_both (Array T 0) (Array T 0) (Array T 0) whole.ghost_name front.ghost_name
     back.ghost_name ◌++◌
 
--- the slice in part k of what local s holds is lent on: its pointer, and then the slice, of the pointer in local j
+-- The slice in part k of the value of local s is passed on: first its pointer, and then the slice at the pointer in
+-- local j.
 module _ {M : Type 1} {𝓤 : Ura M} {𝓛 : Logic 𝓤} {K : Type 0} {Γ : List (Item 𝓤)} {E : Env 𝓤 𝓛.H} {s k d b o n : ℕ}
     {q : Share} {back : Val → Item 𝓤} (t : K)
     (part : Has K 𝓛 (at 𝓛 s Γ) q Part (spot_of 𝓤 𝓛.H E s).1 (zero + d) (slice_val (b, o) n) back)
@@ -83,7 +85,7 @@ module _ {M : Type 1} {𝓤 : Ura M} (𝓛 : Logic 𝓤) (at_mem : Memory → SP
 module _ {M : Type 1} {𝓤 : Ura M} {𝓛 : Logic 𝓤} {K : Type 0} {Γ : List (Item 𝓤)} {E : Env 𝓤 𝓛.H} {C : Calls 𝓤 𝓛.H}
     {Λ : Loops 𝓤 𝓛.H} {f : Callee} {xs :
     List Operand} {d : Place} {rest : Body} {p : Post 𝓤 𝓛.H} where
-  -- up to where the two parts are stored
+  -- Everything up to the store of the two parts.
   pub splits : K → FmC 𝓤 𝓛.H 𝓛.laws C → (at_mem : Memory → SProp 𝓤) (run : Routine → Fun 𝓤) (T : RattleType) → Triple 𝓤
       (C f) (Split 𝓛 at_mem run T) →
       (κ κT : Lft) (q qT : Share) (inT : κ ⊑ κT) → κT ⊑ T.lives → (x : MutBor (List T.Denot)) (n : ℕ) → n < 2 ^ 64 → n
@@ -112,7 +114,7 @@ module _ {M : Type 1} {𝓤 : Ura M} {𝓛 : Logic 𝓤} {K : Type 0} {Γ : List
       raw (fact 𝓤 (SameBelow x.now r.0.now n × TailFrom x.now r.1.now n)) ∷ ‵ (Joins (param 0 T) x r.0 r.1) ∷ [])
       (λ r ws. id⊢ 𝓤 _) (λ v r ws.
       fpick t (λ vss. fsplit t $ feq_l t (λ e. fsplit t $ move t (1 ∷ []) $ fsplit t $
-      -- [the back; nothing; the front; six facts; how the slice ends; the tokens; nothing, twice]
+      -- Context: [the back; nothing; the front; six facts; how the slice ends; the tokens; nothing, twice]
       peeks t Slice _ (shows 𝓛 Slice) r.1 vss.1.0 (λ two. rewrite t 0 (λ (us : List Val). ‵ (Slice.own_val r.1 us))
       two.0.0 refl $
       move t (2 ∷ []) $ peeks t Slice _ (shows 𝓛 Slice) r.0 vss.0
@@ -129,14 +131,14 @@ module _ {M : Type 1} {𝓤 : Ura M} (𝓛 : Logic 𝓤) (T : RattleType) where
   abbrev BothEnd : GName → GName → List T.Denot × List T.Denot → SProp 𝓤
   BothEnd γ γ' p = sep 𝓤 (Ends γ p.0) (Ends γ' p.1)
 
-  -- a slice that is dropped ends as it is
+  -- A slice that is dropped keeps its current value.
   pub dropped : (ℓ : Lifetime) (κ : Lft) (x : MutBor (List T.Denot)) (vs : List Val) → ent 𝓤
       (sem 𝓛 ((MutSlice ℓ κ T).own_val x vs)) (Ends x.ghost_name x.now)
   dropped ℓ κ x vs = qed 𝓛 (‵ ((MutSlice ℓ κ T).own_val x vs) ∷ []) ∵ fsplit3 ! $ keep ! (1 ∷ []) $
       rewrite ! 0 (λ (xs : List T.Denot). ‵ (fobs x.ghost_name ((Array T 0).coded.code xs))) (heres_id T x.now) refl $
       use1 𝓛 (‵ (EndsAs T x.ghost_name x.now)) (𝓛.names.obs-res x.ghost_name ((Array T 0).coded.code x.now)) $ done !
 
--- the same in steps, over the names of what is lent
+-- The same lemmas as steps, with the names of the borrows as parameters.
 module _ {M : Type 1} {𝓤 : Ura M} {𝓛 : Logic 𝓤} {K : Type 0} {Γ : List (Item 𝓤)} (t : K) (T : RattleType) where
   module _ {G : Goal 𝓤 𝓛.H} where
     pub lets_go : (κ : Lft) (x : MutBor (List T.Denot)) {vs : List Val} →

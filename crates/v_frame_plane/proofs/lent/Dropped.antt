@@ -1,5 +1,5 @@
--- A function that runs nothing and says what iterators that are dropped leave, where this is so. The laws of rows and
--- of pixels are instances. Assumes `Logic`.
+-- A function that executes nothing and states the effect of dropping an iterator. The laws of rows and of pixels are
+-- instances. Assumes `Logic`.
 use Rattle.v_frame_buffer.proofs.Steps.{[], ◌∷◌, List, refl, proved, flft, ftrue, emp, ent, sep, fact, ◌⊑◌, tables, Val}
 use Rattle.v_frame_buffer.proofs.Steps.{Stays, Clauses, ends_at, alloc_all, free_all, look_at, pass_all, sets, ‵, raw}
 use Rattle.v_frame_buffer.proofs.Steps.{◌⊛◌, ◌$◌, ◌∵◌, !, qed, done, drop, feq_i, join, move, nothing, split, suffices}
@@ -40,7 +40,7 @@ module _ {M : Type 1} {𝓤 : Ura M} (𝓛 : Logic 𝓤) (𝓜 : Model 𝓤 𝓛
         move ! (1 ∷ []) $ drop ! $ split ! $ move ! (1 ∷ []) $ drop ! $ split ! $
         enter ! _ _ _ _ _ $ alloc_all ! (λ l. pass_all ! refl tt $
         sets ! (of_opd ! (unit_lit !)) refl (tt, tt) $ returns ! (look_at ! 0 refl) $ free_all ! refl $
-        -- [the token of κT; nothing]
+        -- Context: [the token of κT; nothing]
         move ! (1 ∷ []) $ drop ! $ use0 𝓛 (‵ law) holds $
         suffices ! _ (ends_at 𝓛 En stayed clauses ((κs, qs, bounds, a, tt), g) vunit tt tt tt) $
         nothing ! $ feq_i ! (List Val) (vunit ∷ []) (vunit ∷ []) refl $ move ! (1 ∷ 0 ∷ []) $ join ! $ nothing ! $ move

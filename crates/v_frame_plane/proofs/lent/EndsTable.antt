@@ -1,5 +1,5 @@
--- How a plane ends of which an iterator was lent: by the final values of its rows, and by those of its pixels. Assumes
--- `Logic`.
+-- The final state of a plane whose items were lent by an iterator, computed from the final values of its rows or of
+-- its pixels. Assumes `Logic`.
 use Rattle.v_frame_buffer.proofs.Steps.{◌≡◌, List, [], ◌∷◌, length, map, MutBor, refl, sym, ap, ◌∙◌, ent, all, wand, RattleType, Ura, ‵}
 use Rattle.v_frame_buffer.proofs.Steps.{◌$◌, ◌∵◌, !, qed, assume, done, drop, each, fpack, fpick, fsplit, move, rewrite}
 use Rattle.v_frame_buffer.proofs.Steps.{use1, use2, fjoin, fsep, Fml, Logic, sem, fex, fres, Array, All, append-nil, nil_from_length}
@@ -43,7 +43,7 @@ module _ {M : Type 1} {𝓤 : Ura M} (𝓛 : Logic 𝓤) (T : RattleType) (plane
   abbrev cut : List T.Denot → List (List T.Denot)
   cut = let table = table_of plane.now in cut_rows (width_of table) (height_of table)
 
-  -- the rows of the parts are the pixels, cut into rows again
+  -- The rows of the parts are the pixels, cut into rows again.
   rows_of_parts : (walk : PixelsMut T.Denot) → BeginsOver plane.now walk → (second : List T.Denot) (parts : Parts T.Denot)
       → ArePartsOf walk second parts →
       (parts.rows ≡ cut second) × (map length parts.rows ≡ map length (table_of plane.now)) × (row_major parts.rows ≡ second)

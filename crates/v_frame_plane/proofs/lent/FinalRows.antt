@@ -1,5 +1,5 @@
--- Final values of rows in the place of those that an iterator has left: what `next` and `next_back` take of them, and
--- what a plane with them shows.
+-- Final values of rows that replace the remaining rows of an iterator: the rows that `next` and `next_back` take, and
+-- the table of a plane with these rows.
 use Rattle.v_frame_buffer.proofs.Steps.{ℕ, ◌≡◌, ◌+◌, ◌-◌, ◌*◌, ◌<◌, ◌≤◌, List, [], ◌∷◌, ◌++◌, length, take}
 use Rattle.v_frame_buffer.proofs.Steps.{list_drop as drop, refl, sym, ◌∙◌, ap, arith, append_assoc, length-take-le}
 use Rattle.v_frame_buffer.proofs.Steps.{zero, suc, map, All, take-append-drop, length-append, take-take, get_or-map}
@@ -18,7 +18,7 @@ use Rattle.v_frame_raster.proofs.tables.Places.{rows_are_wide}
 use Rattle.v_frame_raster.proofs.tables.Pictures.{length-overwritten}
 
 module _ {T : Type 0} where
-  -- what is left as it is changes nothing
+  -- Replacing the remaining rows by themselves changes nothing.
   pub with_rows_as_they_are : (start width gap count : ℕ) (xs : List T) → with_rows_ahead start width gap count xs
       (rows_ahead start width gap count xs) ≡ xs
   with_rows_as_they_are start width gap zero xs = refl
@@ -36,7 +36,7 @@ module _ {T : Type 0} where
       let e : suc (count - 1) ≡ count = omega arith in
       ap (λ n. with_rows_ahead start width gap n xs (row ∷ rows)) e
 
-  -- the last row lies after what the others take
+  -- The last row lies after the entries of the other rows.
   with_last_of_more : (start width gap count : ℕ) (xs row : List T) (rows : List (List T)) → length rows ≡ count
       → with_rows_ahead start width gap count (take (start + count * (width + gap)) xs) rows ++
       (row ++ drop width (drop (start + count * (width + gap)) xs)) ≡ with_rows_ahead start width gap (suc count) xs
@@ -68,7 +68,7 @@ module _ {T : Type 0} where
       with_last_of_more start width gap (count - 1) xs row rows same ∙ ap
       (λ n. with_rows_ahead start width gap n xs (rows ++ row ∷ [])) e
 
-  -- in a longer slice all of it is after what is in front
+  -- In a longer slice, everything lies after the entries in front.
   with_rows_behind : (ahead start width gap count : ℕ) (front xs : List T) (rows : List (List T)) → length front ≡ ahead
       → with_rows_ahead (ahead + start) width gap count (front ++ xs) rows ≡ front ++ with_rows_ahead start width gap
       count xs rows
@@ -79,7 +79,7 @@ module _ {T : Type 0} where
       (append_assoc front (take start xs) (row ++ with_rows_ahead gap width gap count (drop width (drop start xs))
       rows))
 
-  -- to put them all in is to write the first, and then the others after it
+  -- Replacing all rows writes the first row, and then the others after it.
   first_written : (start width gap count : ℕ) (xs row : List T) (rows : List (List T)) → length row ≡ width → start ≤
       length xs
       → with_rows_ahead start width gap (suc count) xs (row ∷ rows) ≡ with_rows_ahead (start + (width + gap)) width gap
@@ -98,7 +98,7 @@ module _ {T : Type 0} where
       )
       (sym (append_assoc (take start xs) row (with_rows_ahead gap width gap count behind rows)))
 
-  -- with rows in the place of those from the y-th on a plane has these in its table, and keeps its size and its border
+  -- A plane whose rows from the y-th on are replaced has these rows in its table, and keeps its size and its border.
   written_from : (g : Geometry) (gap y count : ℕ) (xs : List T) (rows : List (List T)) → g.width + gap ≡ stride_of g →
       y + count ≡ g.height →
       All (λ row. length row ≡ g.width) rows → length rows ≡ count → length xs ≡ alloc_size_of g
@@ -132,7 +132,7 @@ module _ {T : Type 0} where
             (append_assoc (take y (table_of (raster g xs))) (row ∷ []) rows),
       )
 
-  -- rows with the lengths of those shown are as wide as the plane
+  -- Rows with the lengths of the visible rows have the width of the plane.
   as_wide : (p : Raster T) (rows : List (List T)) → length p.buffer ≡ alloc_size_of p.geometry → map length rows ≡ map
       length (table_of p) →
       All (λ row. length row ≡ p.geometry.width) rows
@@ -141,7 +141,7 @@ module _ {T : Type 0} where
       rw (← get_or-map length rows k d 0 h, same, get_or-map length (table_of p) k d 0 (omega arith))
       (rows_are_wide p whole k d (omega arith))
 
-  -- so an iterator over a whole buffer writes each table
+  -- An iterator over a whole buffer can therefore write each table.
   pub writes_table : (p : Raster T) (start width gap count : ℕ) (rows : List (List T)) → length p.buffer ≡
       alloc_size_of p.geometry → 0 < p.geometry.height
       → start ≡ origin_of p.geometry → width ≡ p.geometry.width → gap ≡ stride_of p.geometry - p.geometry.width → count

@@ -1,11 +1,12 @@
--- A method of an iterator that lends, on `&mut self`, for proofs by hand. Assumes `Logic`.
---     Method     what it is to the logic.        ended, clauses, Met     its contract, and that a function meets it
--- method     its compiled code, of its body and the types of its locals.        in_order, set, gets, value
--- statements, and what they act on
--- meets_by     it meets its contract, where its code is walked from self and the tokens.        gives     how such a
--- walk ends
--- calls_self     it is called on a self that lies in a cell, which is lent to the call and is there again as the call
--- left it
+-- A method with `&mut self` of an iterator that lends, for hand-written proofs. Assumes `Logic`.
+-- - Method: the method, as the logic describes it.
+-- - ended, clauses, Met: its contract, and the fact that a function meets this contract.
+-- - method: its compiled code, from its body and the types of its locals.
+-- - in_order, set, gets, value: statements and their operands.
+-- - meets_by: a function meets the contract if its code can be executed from self and the tokens.
+-- - gives: the end of such an execution.
+-- - calls_self: the method is called on a self in a cell. The cell is lent to the call and has the new self
+--   afterwards.
 use Rattle.v_frame_buffer.proofs.Steps.{ℕ, ◌≡◌, List, [], ◌∷◌, MutBor, refl, ap, Lft, Share, fat, flft, fobs, fbor}
 use Rattle.v_frame_buffer.proofs.Steps.{full_share, SProp, ent, emp, sep, ◌⊑◌, ⊑_trans, meet_⊑_right, Fun, fact, tables}
 use Rattle.v_frame_buffer.proofs.Steps.{mem, RattleType, MutRef, mut_vals, mut_Tells, plain, named_lft, NamedLft, Stays}
@@ -27,7 +28,7 @@ pub use Rattle.v_frame_buffer.proofs.Statements.{gets, in_order, locals_of, set,
 use Rattle.v_frame_buffer.proofs.Loans.{comes_back, lends, lft_over, share_within}
 use base.Share
 
--- its code
+-- The code of the method.
 abbrev pub method : Code → List Ty → Fn
 method body types = record {
   lifetimes = 2;
@@ -39,9 +40,8 @@ method body types = record {
   locals = locals_of types;
 }
 
--- the rows of self and of what it gives, at the lifetime of what is lent; what has to outlive that; what it asks of
--- self, and what it says of self, of what
--- it gives and of self afterwards
+-- The types of self and of the result, for the lifetime of the loan; the lifetime that must outlive it; the
+-- precondition; and the postcondition, which relates the old self, the result and the new self.
 pub record Method {M : Type 1} (𝓤 : Ura M) : Type 2 where
   pub Self : NamedLft → RattleType
   pub Given : NamedLft → RattleType
@@ -50,7 +50,7 @@ pub record Method {M : Type 1} (𝓤 : Ura M) : Type 2 where
   pub says : (ℓ : NamedLft) → (Self ℓ).Denot → (Given ℓ).Denot → (Self ℓ).Denot → Item 𝓤
 
 module _ {M : Type 1} {𝓤 : Ura M} (m : Method 𝓤) where
-  -- the row of self at a caller's lifetimes: that of self, that of what is lent, and T's
+  -- The type of self at a caller's lifetimes: that of self, that of the loan, and that of T.
   abbrev row : Lfts 3 → RattleType
   row κs = m.Self (named_lft 3 1 tt κs)
 
@@ -109,7 +109,7 @@ module _ {M : Type 1} {𝓤 : Ura M} (𝓛 : Logic 𝓤) (𝓜 : Model 𝓤 𝓛
       walk κs qs bounds a.0 inT))
 
 module _ {M : Type 1} {𝓤 : Ura M} {𝓛 : Logic 𝓤} {Γ : List (Item 𝓤)} where
-  -- what is given, self in two, the tokens
+  -- Context: the result, self in two parts, the tokens.
   pub gives : Go {0} → (m : Method 𝓤) (κs : Lfts 3) (qs : Shares 3) (bounds : Bounds m κs)
       (self : MutBor (row m κs).Denot) (v : Val) →
       let ℓ = named_lft 3 1 tt κs in (r : (m.Given ℓ).Denot) (new : (row m κs).Denot)
@@ -126,7 +126,7 @@ module _ {M : Type 1} {𝓤 : Ura M} {𝓛 : Logic 𝓤} {Γ : List (Item 𝓤)}
 module _ {M : Type 1} {𝓤 : Ura M} {𝓛 : Logic 𝓤} {K : Type 0} {Γ : List (Item 𝓤)} {E : Env 𝓤 𝓛.H} {C : Calls 𝓤 𝓛.H}
     {Λ : Loops 𝓤 𝓛.H} {p : Post 𝓤 𝓛.H} {f :
     Callee} {x : Operand} {d : Place} {rest : Code} where
-  -- τ is the type of the cell, as the machine has it
+  -- The type of the cell in the machine is τ.
   pub calls_self : K → FmC 𝓤 𝓛.H 𝓛.laws C → (m : Method 𝓤) → Met m 𝓛 (C f) → (κ κT : Lft) (q qT : Share) → κ ⊑ κT → κT
       ⊑ m.lives →
       let ℓ : NamedLft = record { mir = named 1; lft = κ } in let R = m.Self ℓ in
@@ -150,12 +150,12 @@ module _ {M : Type 1} {𝓤 : Ura M} {𝓛 : Logic 𝓤} {K : Type 0} {Γ : List
       (κc, (κ, (κT, tt))) in
       let qs : Shares 3 = (share_within (Share.left q), (Share.right q, (qT, tt))) in
       let bounds : Bounds m κs = (in_c, (⊑_trans κc κ κT in_c inside, (inside, tt))) in
-      -- [self, lent; what its lender keeps; the token of the loan; the way back; the tokens of κ and κT]
+      -- Context: [the lent self; the lender's part; the token of the loan; the way back; the tokens of κ and κT]
       calls t (2 ∷ 4 ∷ 5 ∷ 0 ∷ []) run (ended m) (clauses m 𝓛) met
       ((κs, qs, bounds, (self, tt), (vptr b o ∷ [], tt)), tt) (asks_also 𝓤 inT holds) refl
       (and_then t (reads _ _ _) (no_more t)) (λ r ws. m.says ℓ old r ws.0 ∷ []) (λ r ws. id⊢ 𝓤 _)
       (λ v r ws. let new = ws.0 in
-      -- [what is given; what is said; the tokens of the loan, of κ and of κT; the last value; what the lender keeps;
+      -- Context: [the result; the clauses; the tokens of the loan, of κ and of κT; the last value; the lender's part;
       -- the way back]
       move t (2 ∷ 7 ∷ []) $ lft_over t tt α κ (Share.left q) $ move t (1 ∷ 4 ∷ []) $ use2 𝓛 (‵ (flft κ q))
       (𝓛.lfts.lft_join κ q) $

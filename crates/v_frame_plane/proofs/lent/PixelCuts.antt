@@ -1,8 +1,9 @@
--- A call of `cut_first` or `cut_last`, and what `next` or `next_back`, which makes it, leaves of the final values.
--- Assumes `Logic`.
---     cuts_one     the slice goes to the call, which gives its pixel and the rest: it ends as they do
--- takes_near, fewer, steps     so the iterator ends as the pixel and what is left, which can be counted, and the pixel
--- is the next at that end
+-- A call of `cut_first` or `cut_last`, and the effect of `next` or `next_back`, which makes this call, on the final
+-- values. Assumes `Logic`.
+-- - cuts_one: the slice is passed to the call, which returns its pixel and the rest. The final slice consists of
+--   these.
+-- - takes_near, fewer, steps: the final iterator consists of the pixel and the remaining pixels. The remaining pixels
+--   are countable, and the pixel is the next one at this end.
 use Rattle.v_frame_buffer.proofs.Steps.{◌≡◌, ◌^◌, ◌<◌, List, [], ◌∷◌, ◌++◌, length, MutBor, refl, ap, ◌∙◌, arith, Lft}
 use Rattle.v_frame_buffer.proofs.Steps.{Share, flft, SProp, ent, sep, wand, id⊢, ◌⊑◌, fact, Array, shows, param}
 use Rattle.v_frame_buffer.proofs.Steps.{RattleType, MutRef, MutSlice, slice_val, heard, only, peeks, triple_of}
@@ -25,7 +26,7 @@ use Rattle.v_frame_plane.proofs.lent.PixelSides.{cut_clauses}
 use Rattle.v_frame_plane.proofs.lent.PixelParts.{of_parts, parts_of}
 use Rattle.v_frame_plane.proofs.lent.Sides.{Side, at_front, at_back, near, far, put, Countable, walk_by, Steps, Takes}
 
--- where the pixel of a slice is that was cut into this one and the rest
+-- The list that results when a pixel and the rest are joined at one end.
 abbrev Put : Type 0 → Type 0
 Put X = X → List X → List X
 
@@ -76,7 +77,7 @@ module _ {M : Type 1} {𝓤 : Ura M} {𝓛 : Logic 𝓤} {K : Type 0} {Γ : List
       r.1.ghost_name (put s)) ∷
       raw (fact 𝓤 (x.now ≡ put s r.0.now r.1.now)) ∷ []) (λ r ws. id⊢ 𝓤 _) (λ v r ws.
       fpick t (λ vss. fsplit t $ feq_l t (λ e. fsplit t $ move t (1 ∷ []) $ fsplit t $
-      -- [the rest; nothing; the pixel; how the slice ends; a fact; the tokens; nothing]
+      -- Context: [the rest; nothing; the pixel; how the slice ends; a fact; the tokens; nothing]
       peeks t Slice _ (shows 𝓛 Slice) r.1 vss.1.0 (λ two. rewrite t 0 (λ (us : List Val). ‵ (Slice.own_val r.1 us))
       two.0.0 refl $
       move t (2 ∷ []) $ peeks t Pixel _ (shows 𝓛 Pixel) r.0 vss.0
@@ -97,7 +98,7 @@ module _ {M : Type 1} {𝓤 : Ura M} (𝓛 : Logic 𝓤) (T : RattleType) where
   abbrev One : GName → T.Denot → SProp 𝓤
   One name pixel = sem 𝓛 (PixelEndsAs T name pixel)
 
-  -- a slice that was cut ends as its pixel and the rest
+  -- The final value of a split slice consists of its pixel and the rest.
   pub ends_put : (put : Put T.Denot) (whole pixel rest : GName) (w : T.Denot) (xs : List T.Denot)
       → ent 𝓤 (sep 𝓤 (sem 𝓛 (follows_both Whole T Whole whole pixel rest put)) (sep 𝓤 (One pixel w) (Ends rest xs)))
       (Ends whole (put w xs))
@@ -121,7 +122,7 @@ module _ {M : Type 1} {𝓤 : Ura M} (𝓛 : Logic 𝓤) (T : RattleType) where
         each ! (λ held. wand 𝓤 (Both held) (sem 𝓛 (FinalPixels T old (held.0 ∷ held.1)))) (λ held.
         assume ! (‵ (PixelEndsAs T pixel.ghost_name held.0) ⊛ ‵ (FinalPixels T new held.1)) $ split ! $
         move ! (1 ∷ []) $ fpick ! (λ ps. fpick ! (λ are. fsplit3 ! $
-        -- [the front; the rows; the back; the pixel; how the front was cut]
+        -- Context: [the front; the rows; the back; the pixel; how the front was cut]
         move ! (4 ∷ 3 ∷ 0 ∷ []) $ use3 𝓛 (‵ (EndsAs T old.front.ghost_name (held.0 ∷ ps.front)))
         (ends_put ◌∷◌ old.front.ghost_name pixel.ghost_name rest.ghost_name held.0 ps.front) $
         move ! (0 ∷ 1 ∷ 2 ∷ []) $ fjoin3 ! $
@@ -141,7 +142,7 @@ module _ {M : Type 1} {𝓤 : Ura M} (𝓛 : Logic 𝓤) (T : RattleType) where
         each ! (λ held. wand 𝓤 (Both held) (sem 𝓛 (FinalPixels T old (held.1 ++ held.0 ∷ [])))) (λ held.
         assume ! (‵ (PixelEndsAs T pixel.ghost_name held.0) ⊛ ‵ (FinalPixels T new held.1)) $ split ! $
         move ! (1 ∷ []) $ fpick ! (λ ps. fpick ! (λ are. fsplit3 ! $
-        -- [the front; the rows; the back; the pixel; how the back was cut]
+        -- Context: [the front; the rows; the back; the pixel; how the back was cut]
         move ! (4 ∷ 3 ∷ 2 ∷ []) $ use3 𝓛 (‵ (EndsAs T old.back.ghost_name (ps.back ++ held.0 ∷ [])))
         (ends_put (put at_back) old.back.ghost_name pixel.ghost_name rest.ghost_name held.0 ps.back) $
         move ! (1 ∷ 2 ∷ 0 ∷ []) $ fjoin3 ! $
@@ -156,7 +157,7 @@ module _ {M : Type 1} {𝓤 : Ura M} (𝓛 : Logic 𝓤) (T : RattleType) where
         })) $ done !)))
 
 module _ {X : Type 0} (walk : PixelsMut X) where
-  -- one pixel less at this end
+  -- One pixel fewer remains at this end.
   pub fewer : (s : Side) (pixel : X) (rest : List X) → (near s walk).now ≡ put s pixel rest → Countable s rest
       (rows_left walk.rows) (far s walk).now
   fewer at_front pixel rest is = record {
@@ -171,7 +172,7 @@ module _ {X : Type 0} (walk : PixelsMut X) where
             (arith, walk.countable.bound, ap length is, length-append rest (pixel ∷ []));
       }
 
-  -- that pixel is the first of all, or the last
+  -- This pixel is the first of all, or the last.
   pub steps : (s : Side) (pixel : MutBor X) (rest : MutBor (List X)) → (near s walk).now ≡ put s pixel.now rest.now →
       (countable : Countable s rest.now (rows_left walk.rows) (far s walk).now) → Steps s walk pixel
       (walk_by s rest walk.rows (far s walk) countable)

@@ -1,8 +1,9 @@
--- What a call of an iterator that lends pixels leaves, by its steps, of which one only begins a row. Assumes `Logic`.
--- keeps_same     what stays as it was keeps the pixels.        after_keeping     a step that keeps the pixels, and then
--- another one
--- yields_pixel, moves, yields_none, rests     the plain clauses of a call that gives a pixel, and of one that gives
--- none
+-- The effect of a call of an iterator that lends pixels, in two steps. The first step may only begin a row. Assumes
+-- `Logic`.
+-- - keeps_same: an unchanged iterator keeps the pixels.
+-- - after_keeping: a step that keeps the pixels, followed by another one.
+-- - yields_pixel, moves, yields_none, rests: the plain clauses of a call that yields a pixel, and of a call that
+--   yields none.
 use Rattle.v_frame_buffer.proofs.Steps.{◌≡◌, List, [], ◌∷◌, length, Option, Some, None, MutBor, sym, ap, ◌∙◌, arith, ⊤}
 use Rattle.v_frame_buffer.proofs.Steps.{MakesProgress, item_count, SProp, all, emp, ent, sep, wand, RattleType, Ura, ‵}
 use Rattle.v_frame_buffer.proofs.Steps.{raw, ◌$◌, ◌∵◌, !, qed, assume, done, each, move, use2, Logic, sem}
@@ -17,11 +18,11 @@ module _ {M : Type 1} {𝓤 : Ura M} (𝓛 : Logic 𝓤) (T : RattleType) where
   abbrev FinalItems : PixelsMut T.Denot → List T.Denot → SProp 𝓤
   FinalItems walk second = sem 𝓛 (FinalPixels T walk second)
 
-  -- where this is held, the iterator has those final values
+  -- If these values are held, the iterator has the corresponding final values.
   abbrev pub Leaves : {H : Type 0} (held : H → SProp 𝓤) (second : H → List T.Denot) → PixelsMut T.Denot → SProp 𝓤
   Leaves {H} held second walk = all 𝓤 (λ (h : H). wand 𝓤 (held h) (FinalItems walk (second h)))
 
-  -- what the iterator between has, the one before has
+  -- The final values of the intermediate iterator are those of the iterator before.
   pub after_keeping : {H : Type 0} (held : H → SProp 𝓤) (second : H → List T.Denot) (old mid : PixelsMut T.Denot) →
       ent 𝓤 (sep 𝓤 (sem 𝓛 (KeepsPixels T old mid)) (Leaves held second mid)) (Leaves held second old)
   after_keeping {H} held second old mid =

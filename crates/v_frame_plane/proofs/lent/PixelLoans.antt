@@ -1,9 +1,9 @@
--- What an iterator over lent pixels is once a row was begun, and that what its pixels hold when the borrow ends, those
--- that were left before do. Assumes
--- `Logic`.
--- begun     a row was drawn and is what was begun at this end now.        taken     no row was left, and the other
--- end's row was taken
---     keeps_by     how each of these keeps its pixels: what an end of the new iterator's parts is for the old one
+-- The state of an iterator over lent pixels after a row was begun. Its pixels have the same final values as those
+-- that remained before. Assumes `Logic`.
+-- - begun: a row was taken, and is now the begun row at this end.
+-- - taken: no row remained, and the begun row of the other end was taken.
+-- - keeps_by: each of these steps keeps the pixels. An end among the parts of the new iterator corresponds to an end
+--   of the old one.
 use Rattle.v_frame_buffer.proofs.Steps.{◌≡◌, List, Option, None, [], ◌∷◌, ◌++◌, length, Some, MutBor, refl, sym, ap}
 use Rattle.v_frame_buffer.proofs.Steps.{◌∙◌, arith, SProp, all, all_e, apply∗, ent, sep, wand, RattleType, Ura, ‵, raw}
 use Rattle.v_frame_buffer.proofs.Steps.{◌$◌, ◌∵◌, !, qed, assume, done, each, fjoin3, fpick, fsplit, fsplit3, join}
@@ -53,7 +53,7 @@ module _ {T : Type 0} (old : PixelsMut T) (rows : RowsMut T) where
     begun_full at_front is none = absurd (omega (arith, ((drawn at_front is).full old.countable.full).0, none))
     begun_full at_back is none = absurd (omega (arith, ((drawn at_back is).full old.countable.full).0, none))
 
-  -- e is what `take` leaves
+  -- The value e is the one that `take` leaves.
   module _ (e : MutBor (List T)) (empty : e.now ≡ []) (had : was ≡ []) (none : left ≡ []) where
     pub taken_countable : (s : Side) → Countable s (far s old).now left e.now
     taken_countable at_front = none_countable old.countable none old.back.now e.now (omega (arith, ap length empty))
@@ -74,7 +74,7 @@ module _ {M : Type 1} {𝓤 : Ura M} (𝓛 : Logic 𝓤) (T : RattleType) where
   abbrev Ends : MutBor (List T.Denot) → List T.Denot → Fml
   Ends x entries = EndsAs T x.ghost_name entries
 
-  -- nothing was left at this end, and `given` is what the draw of a row leaves
+  -- Nothing remained at this end, and `given` is the effect of taking a row.
   keeps_by : (s : Side) (old new : PixelsMut T.Denot) (given : Fml) (turn : Parts T.Denot → Parts T.Denot) → length
       (near s old).now ≡ 0
       → ((second : List T.Denot) (parts : Parts T.Denot) → ArePartsOf new second parts → ArePartsOf old second
@@ -89,7 +89,7 @@ module _ {M : Type 1} {𝓤 : Ura M} (𝓛 : Logic 𝓤) (T : RattleType) where
       each ! (λ (second : List T.Denot). wand 𝓤 (sem 𝓛 (FinalPixels T new second)) (sem 𝓛 (FinalPixels T old second)))
       (λ second.
       assume ! (‵ (FinalPixels T new second)) $ fpick ! (λ parts. fpick ! (λ are. let to = goes second parts are in
-      -- [the parts; the end; what is given]
+      -- Context: [the parts; the end; the result]
       move ! (2 ∷ 1 ∷ 0 ∷ []) $ use3 𝓛 (‵ (PartsEnd T old (turn parts))) to.1 $
       use1 𝓛 (‵ (FinalPixels T old second)) (of_parts 𝓛 T old second (turn parts) to.0) $ done !)))
 
@@ -97,7 +97,7 @@ module _ {M : Type 1} {𝓤 : Ura M} (𝓛 : Logic 𝓤) (T : RattleType) where
     abbrev Left : List (List T.Denot)
     Left = rows_left rows
 
-    -- the row that was at its end, and what the draw of a row leaves
+    -- The row that was used up, and the effect of taking a row.
     abbrev Drawn : Side → Option (MutBor (List T.Denot)) → Fml
     Drawn s r = fsep (Ends (near s old) (near s old).now) (LendsRow s T old.rows r rows)
 
@@ -119,7 +119,7 @@ module _ {M : Type 1} {𝓤 : Ura M} (𝓛 : Logic 𝓤) (T : RattleType) where
             },
             qed 𝓛 (‵ (TakesFirstRow T old.rows rows row) ∷ ‵ (Ends old.front []) ∷ ‵ (PartsEnd T new parts) ∷ []) ∵
                 move ! (2 ∷ []) $ fsplit3 ! $
-                -- [the row; the rows; the back; what a call leaves; the old front]
+                -- Context: [the row; the rows; the back; the effect of the call; the old front]
                 move ! (3 ∷ 0 ∷ 1 ∷ []) $ use3 𝓛 (‵ (FinalRows T old.rows (parts.front ∷ parts.rows)))
                 (at_one 𝓛 Both (λ held. sem 𝓛 (FinalRows T old.rows (held.0 ∷ held.1))) (parts.front, parts.rows)) $
                 move ! (2 ∷ 0 ∷ 1 ∷ []) $ fjoin3 ! $ done !,
@@ -151,7 +151,7 @@ module _ {M : Type 1} {𝓤 : Ura M} (𝓛 : Logic 𝓤) (T : RattleType) where
                 use1 𝓛 (raw (Gives held)) (all_e 𝓤 (λ (same : length held.1 ≡ length Left). Gives held)
                 (same_count parts.rows Left are.rows)) $
                 move ! (2 ∷ []) $ fsplit3 ! $
-                -- [the front; the rows; the row; what a call leaves; the old back]
+                -- Context: [the front; the rows; the row; the effect of the call; the old back]
                 move ! (2 ∷ 1 ∷ []) $ join ! $ move ! (0 ∷ 2 ∷ []) $
                 use2 𝓛 (‵ (FinalRows T old.rows (parts.rows ++ parts.back ∷ []))) (apply∗ 𝓤 (Both held) _) $
                 move ! (1 ∷ 0 ∷ []) $ fjoin3 ! $ done !,
@@ -185,7 +185,8 @@ module _ {M : Type 1} {𝓤 : Ura M} (𝓛 : Logic 𝓤) (T : RattleType) where
             },
             qed 𝓛 (‵ (KeepsRows T old.rows rows) ∷ ‵ (Ends old.front []) ∷ ‵ (PartsEnd T new parts) ∷ []) ∵ move !
                 (2 ∷ []) $ fsplit3 ! $
-                -- [the old back; the rows; what was taken from; what the rows keep; the old front]
+                -- Context: [the old back; the rows; the slice taken from; the fact that the rows are kept; the old
+                -- front]
                 move ! (3 ∷ 1 ∷ []) $ use2 𝓛 (‵ (FinalRows T old.rows [])) (rows_kept parts.rows are.rows) $ keep !
                 (3 ∷ 0 ∷ 1 ∷ []) $ fjoin3 ! $ done !,
           ))
@@ -203,7 +204,8 @@ module _ {M : Type 1} {𝓤 : Ura M} (𝓛 : Logic 𝓤) (T : RattleType) where
             },
             qed 𝓛 (‵ (KeepsRows T old.rows rows) ∷ ‵ (Ends old.back []) ∷ ‵ (PartsEnd T new parts) ∷ []) ∵ move !
                 (2 ∷ []) $ fsplit3 ! $
-                -- [what was taken from; the rows; the old front; what the rows keep; the old back]
+                -- Context: [the slice taken from; the rows; the old front; the fact that the rows are kept; the old
+                -- back]
                 move ! (3 ∷ 1 ∷ []) $ use2 𝓛 (‵ (FinalRows T old.rows [])) (rows_kept parts.rows are.rows) $ keep !
                 (2 ∷ 0 ∷ 3 ∷ []) $ fjoin3 ! $ done !,
           ))

@@ -1,7 +1,9 @@
--- An iterator that lends pixels, in memory, for the proofs by hand of its `next` and `next_back`. Assumes `Logic`.
---     parts, pixels_owned     what it owns, apart and again together
---     front_out, rows_out, back_out     a field goes out.        field_in     it is there again, with another value
---     joins_pixels     its parts are it again.
+-- The memory of an iterator that lends pixels, for the hand-written proofs of its `next` and `next_back`. Assumes
+-- `Logic`.
+-- - parts, pixels_owned: its resources, split into parts and joined again.
+-- - front_out, rows_out, back_out: a field is taken out.
+-- - field_in: the field is put back with another value.
+-- - joins_pixels: its parts are joined again.
 use Rattle.v_frame_buffer.proofs.Steps.{ℕ, ◌+◌, ◌^◌, ◌<◌, List, [], ◌∷◌, length, refl, fat, full_share, SProp, all, ent}
 use Rattle.v_frame_buffer.proofs.Steps.{sep, wand, shows, param, Laws, param_laws, RattleType, Valss, NamedLft}
 use Rattle.v_frame_buffer.proofs.Steps.{MutSlice, slice_ty, nothing, peeks, Ty, Tys, erased, mut, tcons, tnil, ty_param}
@@ -20,11 +22,11 @@ use Rattle.v_frame_plane.proofs.rows_mut.RowsMut.TheLaws.{lowers as rows_lowers}
 abbrev Fields : Tys
 Fields = tcons word (tcons RowsBare (tcons word tnil))
 
--- it as a machine value, of its fields
+-- The iterator as a machine value, from its fields.
 abbrev pub whole : Val → Val → Val → Val
 whole front rows back = vstruct (vcons front (vcons rows (vcons back vnil)))
 
--- where its rows lie, and its last field, in bytes
+-- The offsets of its rows and of its last field, in bytes.
 abbrev pub rows_offset : ℕ
 rows_offset = size word
 
@@ -34,7 +36,7 @@ back_offset = rows_offset + size RowsBare
 abbrev pub lowered : {X : Type 0} → PixelsMut X → Val
 lowered walk = whole (slice_of walk.front) (rows_lowered walk.rows) (slice_of walk.back)
 
--- its type, as the machine sees it and as code names it
+-- The type of the iterator, in the machine and by name in the code.
 abbrev pub Bare : Ty
 Bare = ty_struct [] Fields
 
@@ -49,7 +51,7 @@ module _ {M : Type 1} {𝓤 : Ura M} (𝓛 : Logic 𝓤) (b o : ℕ) where
   abbrev Whole : Val → SProp 𝓤
   Whole v = 𝓛.H.at full_share Bare b o v
 
-  -- it without the field of this type at this place, where `put` says what it is with a value there
+  -- The cell without the field of this type at this offset. `put` computes the whole from a value of the field.
   abbrev pub Around : Ty → ℕ → (Val → Val) → SProp 𝓤
   Around τ d put = all 𝓤 (λ (u : Val). wand 𝓤 (Slot τ d u) (Whole (put u)))
 
@@ -73,14 +75,14 @@ module _ {M : Type 1} {𝓤 : Ura M} (𝓛 : Logic 𝓤) (b o : ℕ) where
   field_in τ d put v = qed 𝓛 (‵ (fat full_share τ b (o + d) v) ∷ raw (Around τ d put) ∷ []) ∵ move ! (1 ∷ 0 ∷ []) $
       use2 𝓛 (‵ (fat full_share Bare b o (put v))) (at_one 𝓛 (Slot τ d) (λ u. Whole (put u)) v) $ done !
 
-  -- as code names it, and as the machine sees it
+  -- The cell by its named type, and by its machine type.
   pub as_named : (a : NamedLft) (T : RattleType) (v : Val) → ent 𝓤 (Whole v) (𝓛.H.at full_share (Named a T) b o v)
   as_named a T v = 𝓛.laws.raw_at full_share (Named a T) b o v
 
   pub bare : (a : NamedLft) (T : RattleType) (v : Val) → ent 𝓤 (𝓛.H.at full_share (Named a T) b o v) (Whole v)
   bare a T v = 𝓛.laws.at_raw full_share (Named a T) b o v
 
--- what an iterator owns, from what its parts do
+-- The resources of an iterator, from the resources of its parts.
 pub pixels_owned : {M : Type 1} {𝓤 : Ura M} (𝓛 : Logic 𝓤) (a : NamedLft) (T : RattleType) (walk : PixelsMut T.Denot) →
     let One = MutSlice a.mir a.lft T in
     ent 𝓤 (sep 𝓤 (sem 𝓛 (One.own_val walk.front (slice_of walk.front ∷ [])))
@@ -102,7 +104,7 @@ pixels_owned 𝓛 a T walk =
     ) $ done !
 
 module _ {M : Type 1} {𝓤 : Ura M} {𝓛 : Logic 𝓤} {K : Type 0} {Γ : List (Item 𝓤)} {G : Goal 𝓤 𝓛.H} where
-  -- its parts are it again
+  -- Its parts are joined again.
   pub joins_pixels : K → (a : NamedLft) (T : RattleType) (b o : ℕ) (new : PixelsMut T.Denot) → let One = MutSlice a.mir
       a.lft (param 0 T) in
       Step K 𝓛 (‵ (fat full_share Bare b o (lowered new)) ∷ ‵ ((the_row a (param 0 T)).own_val new (lowered new ∷ []))
@@ -115,7 +117,7 @@ module _ {M : Type 1} {𝓤 : Ura M} {𝓛 : Logic 𝓤} {K : Type 0} {Γ : List
       (pixels_owned 𝓛 a (param 0 T) new) $
       move t (1 ∷ []) $ use1 𝓛 (‵ (fat full_share Bare b o (lowered new))) (bare 𝓛 b o a (param 0 T) (lowered new)) $ k)
 
-  -- what its parts own, and that their lengths fit
+  -- The resources of its parts, and the fact that their lengths fit.
   pub parts : K → Soaks G → (a : NamedLft) (T : RattleType) → Laws T → (walk : PixelsMut T.Denot) → let One = Slice T
       a.lft in
       (length walk.front.now < 2 ^ 64 → length walk.back.now < 2 ^ 64

@@ -1,8 +1,6 @@
--- `next` and `next_back` of an iterator that lends pixels, of which `s` is the one end: the pixel next to that end is
--- cut off the row that was begun there,
--- and where that row is at its end, another one is begun before. A `&mut` in a field of self no generated proof
--- follows, so this one follows the code.
--- Assumes `Logic`.
+-- `next` and `next_back` of an iterator that lends pixels. The end at which a function works is `s`. The function
+-- cuts the next pixel off the begun row at this end. If this row is used up, it begins another one first. Generated
+-- proofs cannot follow a `&mut` in a field of self, so this hand-written proof follows the code. Assumes `Logic`.
 use Rattle.v_frame_buffer.proofs.Steps.{◌≡◌, [], ◌∷◌, length, Some, None, MutBor, lit<, refl, sym, ◌∙◌, none_of, sep}
 use Rattle.v_frame_buffer.proofs.Steps.{tables, param, MutRef, mut_vals, named_lft, closes, heard, only, framed, named}
 use Rattle.v_frame_buffer.proofs.Steps.{mut, erased, of_list, alloc_all, env, free_all, get, lands_as, look_at}
@@ -51,7 +49,7 @@ use Rattle.std.specs.contracts.option.Option as Opt
 module _ {M : Type 1} {𝓤 : Ura M} {𝓛 : Logic 𝓤} {K : Type 0} {Γ : List (Item 𝓤)} {E : Env 𝓤 𝓛.H} {C : Calls 𝓤 𝓛.H}
     {Λ : Loops 𝓤 𝓛.H} {p : Exit 𝓤 𝓛.H} {f :
     Callee} {x : Operand} {d : Place} {rest : Body} where
-  -- a pixel is cut off a row that was begun and has one, up to where it is stored
+  -- A pixel is cut off a begun row that has one, up to its store.
   cuts_self : K → FmC 𝓤 𝓛.H 𝓛.laws C → (T : RattleType) → Laws T → (s : Side) → Met (pixel_of_row 𝓤 T s) 𝓛 (C f) →
       (κ κT : Lft) (q qT : Share) →
       κ ⊑ κT → κT ⊑ T.lives → (walk : PixelsMut T.Denot) (b o : ℕ) → 0 < length (near s walk).now →
@@ -72,14 +70,13 @@ module _ {M : Type 1} {𝓤 : Ura M} {𝓛 : Logic 𝓤} {K : Type 0} {Γ : List
       Bare refl walk b o
       (fact_i 𝓤 _ (emp 𝓤) some_left) reads (λ v pixel new. move t (5 ∷ []) $ split t $ move t (1 ∷ []) $ heard t _
       (λ steps.
-      -- [what is taken; self's cell; what it owns; the tokens of κ and κT; the pixel]
+      -- Context: [the taken slice; the cell of self; its resources; the tokens of κ and κT; the pixel]
       move t (5 ∷ []) $ spelt t (MutRef (named 1) κ (param 0 T)) (λ r. only (mut_vals r)) (λ r vs is. is.0) pixel v
       (λ is _.
       regoal t (λ (u : Val). lands C Λ E d u rest p) is refl $ k pixel new steps)))
 
--- the code and its proof, over the code's names for what a call gives, self and its rows, the types of self, of it and
--- its rows where they are lent on and of
--- an entry, and what it calls
+-- The code and its proof. The parameters are the names in the code for the result, for self and for its rows, the
+-- types of self, of the lent self and rows and of an entry, and the called functions.
 module _ {M : Type 1} {𝓤 : Ura M} (𝓛 : Logic 𝓤) (𝓜 : Model 𝓤 𝓛.H) (𝓡 : Running 𝓤 𝓛.H 𝓜) (T : RattleType)
     (laws : Laws T) (s : Side)
     (option self rows : Sym) (kept lent lent_rows entry : Ty) (cutting drawing taking : Callee) where
@@ -89,17 +86,17 @@ module _ {M : Type 1} {𝓤 : Ura M} (𝓛 : Logic 𝓤) (𝓜 : Model 𝓤 𝓛
   abbrev end_of : Side → Place
   end_of e = place 1 (deref Self ∷ field (slot e) ∷ [])
 
-  -- a pixel is cut off the row that was begun, by way of the locals i and j
+  -- A pixel is cut off the begun row, through the locals i and j.
   abbrev cuts : ℕ → ℕ → Body
   cuts i j = in_order (set i (addr_of (place 1 (deref Self ∷ []))) ∷ gets j cutting (value i ∷ []) ∷ set 0
       (aggregate (int w8 1 ∷ value j ∷ [])) ∷ []) return
 
-  -- what is done where that row has no pixel, and what is done after that
+  -- The code for a begun row without pixels, and the code after it.
   abbrev where_empty : ℕ → ℕ → Body → Body → Body
   where_empty i j does rest = in_order (set i (rv_opd (copy (place 1 (deref Self ∷ field (slot s) ∷ field 1 ∷ [])))) ∷
       set j (op2 eq (value i) (int w64 0)) ∷ cond (value j) does skip ∷ []) rest
 
-  -- where a row was drawn, and where there was none
+  -- The code after a row was taken, and the code if there was none.
   abbrev drawn : Body
   drawn = in_order (set 2 (rv_opd (copy (place 5 (variant 1 ∷ field 1 ∷ [])))) ∷ set 7
       (addr_of (place 2 (field 0 ∷ deref entry ∷ []))) ∷
@@ -139,7 +136,7 @@ module _ {M : Type 1} {𝓤 : Ura M} (𝓛 : Logic 𝓤) (𝓜 : Model 𝓤 𝓛
       ⊑_trans κa κT T.lives aT inT in
       let b = self.ref_ptr.0 in let o = self.ref_ptr.1 in let h = self.now in let Post = Ends m 𝓛 κs qs bounds self in
       let walks = lowers ℓ item (param_laws 0 T laws) in
-      -- a pixel is given, after what kept the pixels
+      -- A pixel is returned after a step that kept the pixels.
       let gives_one : (w new : PixelsMut T.Denot) (pixel : MutBor T.Denot) → pixels_left w ≡ pixels_left h → Steps s w
       pixel new →
       Sq 𝓛 (‵ (fobs self.ghost_name (Row.coded.code new)) ∷ ‵ (fbor κ (Borrow (mem Row) b o self.ghost_name)) ∷ ‵
@@ -159,8 +156,8 @@ module _ {M : Type 1} {𝓤 : Ura M} (𝓛 : Logic 𝓤) (𝓜 : Model 𝓤 𝓛
       drop ! $ enter ! _ _ _ _ _ $ alloc_all ! (λ l. pass_all ! refl ((tt, tt), tt) $
       opens_self ! tt Row κ q self walks $
       let En = env code.locals l in
-      -- self's cell; what it owns; the open borrow, in three; the tokens of κa and κT; that the pixels are kept; the
-      -- locals
+      -- Context: the cell of self; its resources; the open borrow, in three parts; the tokens of κa and κT; the fact
+      -- that the pixels are kept; the locals.
       let Now : PixelsMut T.Denot → List (Item 𝓤) = λ w. ‵ (fat full_share Bare b o (lowered w)) ∷ ‵
       (Row.own_val w (lowered w ∷ [])) ∷
       ‵ (fobor κ q (Borrow (mem Row) b o self.ghost_name)) ∷ ‵ (fobs self.ghost_name (Row.coded.code h)) ∷ ‵
@@ -169,19 +166,19 @@ module _ {M : Type 1} {𝓤 : Ura M} (𝓛 : Logic 𝓤) (𝓜 : Model 𝓤 𝓛
       let after : Body → Exit 𝓤 𝓛.H → Exit 𝓤 𝓛.H = λ body p. any_q
       (after_seq 𝓤 𝓛.H (Wp 𝓤 𝓛.H 𝓣.C 𝓣.Λ En body (post 𝓤 𝓛.H p)) (post 𝓤 𝓛.H p)) in
       let Within = after (cuts 16 15) (at_ret En Post) in
-      -- another row was begun, or the other end's goes on here
+      -- Another row was begun, or the begun row of the other end continues here.
       let goes_on : (w : PixelsMut T.Denot) → pixels_left w ≡ pixels_left h →
       (length (near s w).now ≡ 0 → pixels_left w ≡ []) →
       Sq 𝓛 (Now w) (runs 𝓣.C 𝓣.Λ En refilled Within) = λ w left begun. well_typed ! (λ ok.
       sets ! (near_len ! s w refl (whole !)) refl (tt, near_fits s w ok) $ sets ! (bin ! (get ! refl) (lit ! tt) tt)
       refl (tt, tt) $
       first ! $ branches ! (get ! refl)
-      -- nothing is left
+      -- Nothing remains.
       (λ empty.
       move ! (0 ∷ 1 ∷ 2 ∷ 3 ∷ 4 ∷ []) $ closes ! tt Row w (lowered w ∷ []) b o $
       sets ! (agg ! (and_then ! (lit ! tt) (no_more !))) refl (tt, (record { fits = lit< tt }, tt)) $
       returns_within ! Post refl (look_at ! 0 refl) $ free_all ! refl $
-      -- [self, in two; the token of κ; those of κa and κT; that the pixels are kept]
+      -- Context: [self, in two parts; the token of κ; those of κa and κT; the fact that the pixels are kept]
       use0 𝓛 (‵ ((Opt.the_row Pixel).own_val None (live 0 (of_list []) ∷ []))) (none_of 𝓛 Pixel) $
       gives ! m κs qs bounds self (live 0 (of_list [])) None w $
       frame ! $ tells ! (yields_none h w s left (begun (eqb→eq (length (near s w).now) 0 empty))) $ told !
@@ -201,30 +198,29 @@ module _ {M : Type 1} {𝓤 : Ura M} (𝓛 : Logic 𝓤) (𝓜 : Model 𝓤 𝓛
       sets ! (near_len ! s h refl (whole !)) refl (tt, near_fits s h ok) $ sets ! (bin ! (get ! refl) (lit ! tt) tt)
       refl (tt, tt) $
       first ! $ branches ! (get ! refl)
-      -- where the row has no pixel the next one is begun
+      -- If the begun row has no pixel, the next row is begun.
       (λ is_empty. let none = eqb→eq (length (near s h).now) 0 is_empty in let x = near s h in let y = far s h in
       sets ! (addr ! (through ! refl (fld ! refl (stop !)))) refl (tt, tt) $
       move ! (1 ∷ []) $ sides ! tt s ℓ T laws h (λ _ far_fits. move ! (3 ∷ []) $
       use1 𝓛 (‵ (fat full_share RowsBare b (o + rows_offset) (rows_lowered h.rows)) ⊛
       raw (Around 𝓛 b o RowsBare rows_offset (λ u. self_of (slice_of h.front) u (slice_of h.back))))
       (rows_out 𝓛 b o (slice_of h.front) (rows_lowered h.rows) (slice_of h.back)) $ split ! $
-      -- [the rows' cell; the way back; this end; what the rows own; the other end; the open borrow; the tokens of κa
-      -- and κT; the locals]
+      -- Context: [the rows' cell; the way back; this end; the resources of the rows; the other end; the open borrow;
+      -- the tokens of κa and κT; the locals]
       move ! (0 ∷ 3 ∷ 8 ∷ 9 ∷ []) $ calls_self ! run (row_draw 𝓤 T s) draw_meets κa κT qa qT aT inT
       (rows_lowers ℓ item (param_laws 0 T laws)) refl RowsBare
       refl h.rows b (o + rows_offset) (id⊢ 𝓤 _) (λ _ _ _. get ! refl) (λ v r rows. let ns = rows_lowered rows in
-      -- [the rows' cell; what they own; the tokens of κa and κT; the row; what the call says; the way back; this end;
-      -- the other end; the open borrow; the
-      -- locals]
+      -- Context: [the rows' cell; their resources; the tokens of κa and κT; the row; the clauses of the call; the way
+      -- back; this end; the other end; the open borrow; the locals]
       move ! (0 ∷ 6 ∷ []) $ use2 𝓛 (‵ (fat full_share Bare b o (self_of (slice_of h.front) ns (slice_of h.back))))
       (field_in 𝓛 b o RowsBare rows_offset (λ u. self_of (slice_of h.front) u (slice_of h.back)) ns) $
       rewrite ! 0 (λ u. ‵ (fat full_share Bare b o u)) (by_sides s h ns) refl $
       move ! (5 ∷ []) $ split3 ! $ move ! (1 ∷ []) $ heard ! _ (λ steps. move ! (1 ∷ []) $ drop ! $ move ! (6 ∷ []) $
       use1 𝓛 (‵ (EndsAs item x.ghost_name x.now)) (dropped 𝓛 item (named 1) κa x _) $
-      -- [how this end ends; what the call leaves; self's cell; what the rows own; the tokens of κa and κT; the row; the
-      -- other end; the open borrow; the locals]
+      -- Context: [how this end ends; the effect of the call; the cell of self; the resources of the rows; the tokens
+      -- of κa and κT; the row; the other end; the open borrow; the locals]
       move ! (6 ∷ []) $ by_row ! T κa r v
-      -- where there is none, what the other end had is begun here
+      -- If there is no row, the begun row of the other end is taken over here.
       (λ gone out. let few = no_rows s h.rows rows (subst (λ r. YieldsRow s h.rows r rows) gone steps) in
       rewrite ! 1 (λ (r : Option (MutBor (List T.Denot))). ‵ (LendsRow s item h.rows r rows)) gone refl $
       lands_as ! out refl (tt, (record { fits = lit< tt }, tt)) $
@@ -234,17 +230,15 @@ module _ {M : Type 1} {𝓤 : Ura M} (𝓛 : Logic 𝓤) (𝓜 : Model 𝓤 𝓛
       move ! (2 ∷ []) $ use1 𝓛 (‵ (fat full_share word b (o + offset (other s)) (slice_of y)) ⊛
       raw (Around 𝓛 b o word (offset (other s)) (λ u. whole_by s (slice_of x) ns u)))
       (far_out 𝓛 b o (slice_of x) ns (slice_of y) s) $ split ! $
-      -- [the other end's cell; the way back; how this end ends; what the call leaves; what the rows own; the tokens of
-      -- κa and κT; the other end; the open
-      -- borrow; the locals]
+      -- Context: [the other end's cell; the way back; how this end ends; the effect of the call; the resources of the
+      -- rows; the tokens of κa and κT; the other end; the open borrow; the locals]
       move ! (0 ∷ 7 ∷ 5 ∷ []) $ calls_take ! run 𝓜.mem 𝓡.returns T κa (take_meets κa inA) qa y b (o + offset (other s))
       inA
       (λ β δ. and_then ! (get ! refl) (no_more !)) (λ e empty.
       lands_as ! refl refl (slice_fits far_fits) $
       let new = taken h rows e empty few.0 few.1 s in let left = whole_by s (slice_of x) ns (slice_val e.ref_ptr 0) in
-      -- [the other end's cell; what is left there; the other end; the token of κa; the way back; how this end ends;
-      -- what the call leaves; what the rows own;
-      -- the token of κT; the open borrow; the locals]
+      -- Context: [the other end's cell; the value left there; the other end; the token of κa; the way back; how this
+      -- end ends; the effect of the call; the resources of the rows; the token of κT; the open borrow; the locals]
       move ! (0 ∷ 4 ∷ []) $ use2 𝓛 (‵ (fat full_share Bare b o left))
       (field_in 𝓛 b o word (offset (other s)) (λ u. whole_by s (slice_of x) ns u)
       (slice_val e.ref_ptr 0)) $
@@ -257,15 +251,14 @@ module _ {M : Type 1} {𝓤 : Ura M} (𝓛 : Logic 𝓤) (𝓜 : Model 𝓤 𝓛
       (sym empty) refl $
       rewrite ! 1 (λ (xs : List T.Denot). ‵ ((MutSlice (named 1) κa item).own_val e
       (slice_val e.ref_ptr (length xs) ∷ []))) (sym empty) refl $
-      -- [self's cell; what is left; the other end; the token of κa; how this end ends; what the call leaves; what the
-      -- rows own; the token of κT; the open
-      -- borrow; the locals]
+      -- Context: [the cell of self; the new iterator; the other end; the token of κa; how this end ends; the effect
+      -- of the call; the resources of the rows; the token of κT; the open borrow; the locals]
       move ! (4 ∷ 5 ∷ []) $ fjoin ! $ use1 𝓛 (‵ (KeepsPixels item h new))
       (keeps_taken 𝓛 item h rows e empty few.0 few.1 s none) $
       move ! (3 ∷ 5 ∷ 2 ∷ 1 ∷ []) $ joins_by ! s ℓ T b o y rows e (taken_countable h rows e empty few.0 few.1 s) $
       move ! (0 ∷ 1 ∷ 5 ∷ 6 ∷ 7 ∷ 3 ∷ 4 ∷ []) $ forget_but ! En (1 ∷ []) refl $
       goes_on new (taken_left h rows e empty few.0 few.1 s none) (taken_none h rows e empty few.0 few.1 s)))
-      -- where there is one, it is begun here
+      -- If there is a row, it is begun here.
       (λ row there out row_fits.
       let is = row_steps s h.rows row rows (subst (λ r. YieldsRow s h.rows r rows) there steps) in let new = begun h
       rows row s is in
@@ -273,8 +266,8 @@ module _ {M : Type 1} {𝓤 : Ura M} (𝓛 : Logic 𝓤) (𝓜 : Model 𝓤 𝓛
       move ! (1 ∷ 2 ∷ []) $ fjoin ! $ use1 𝓛 (‵ (KeepsPixels item h new)) (keeps_begun 𝓛 item h rows row s is none) $
       let left = whole_by s (slice_of x) ns (slice_of y) in
       move ! (2 ∷ []) $ use1 𝓛 (‵ (fat full_share (Named ℓ item) b o left)) (as_named 𝓛 b o ℓ item left) $
-      -- [self's cell; what the iterator keeps; the row; what the rows own; the tokens of κa and κT; the other end; the
-      -- open borrow; the locals]
+      -- Context: [the cell of self; the fact that the pixels are kept; the row; the resources of the rows; the tokens
+      -- of κa and κT; the other end; the open borrow; the locals]
       lands_as ! out refl (tt, (record { fits = lit< tt }, ((tt, (record { fits = row_fits }, tt)), tt))) $
       first ! $ switches_on ! (get_tag ! (vrt ! refl (fld ! refl (stop !))) (whole !)) $
       exec ! 𝓣.C 𝓣.Λ En drawn (after refilled Within) $

@@ -1,7 +1,6 @@
--- `next_of_front` and `next_of_back` of an iterator that lends pixels, of which `s` is the one end: the pixel next to
--- that end is cut off the row that was
--- begun there, and the rest is kept. A `&mut` in a field of self no generated proof follows, so this one follows the
--- code. Assumes `Logic`.
+-- `next_of_front` and `next_of_back` of an iterator that lends pixels. The end at which a function works is `s`. The
+-- function cuts the next pixel off the begun row at this end, and keeps the rest. Generated proofs cannot follow a
+-- `&mut` in a field of self, so this hand-written proof follows the code. Assumes `Logic`.
 use Rattle.v_frame_buffer.proofs.Steps.{◌+◌, [], ◌∷◌, refl, closes, heard, framed, named, mut, erased, alloc_all}
 use Rattle.v_frame_buffer.proofs.Steps.{free_all, get, get_in, lands_as, look_at, pass_all, sets, through, ‵, raw, ◌⊛◌}
 use Rattle.v_frame_buffer.proofs.Steps.{◌$◌, !, drop, move, split, rewrite, use1, use2, agg, whole, addr, and_then}
@@ -24,8 +23,8 @@ use Rattle.v_frame_plane.proofs.lent.Taken.{IsTake, calls_take, word}
 use Rattle.v_frame_buffer.proofs.CallSteps.{told}
 use Rattle.v_frame_plane.proofs.lent.Methods.{Met, gets, gives, in_order, meets_by, method, set, value}
 
--- the code and its proof, over the code's names for self, its rows and a pair, the types of self and of an entry, and
--- what it calls
+-- The code and its proof. The parameters are the names in the code for self, for its rows and for a pair, the types
+-- of self and of an entry, and the called functions.
 module _ {M : Type 1} {𝓤 : Ura M} (𝓛 : Logic 𝓤) (𝓜 : Model 𝓤 𝓛.H) (𝓡 : Running 𝓤 𝓛.H 𝓜) (T : RattleType)
     (laws : Laws T) (s : Side) (self rows pair : Sym)
     (kept entry : Ty) (taking cutting : Callee) where
@@ -61,30 +60,32 @@ module _ {M : Type 1} {𝓤 : Ura M} (𝓛 : Logic 𝓤) (𝓜 : Model 𝓤 𝓛
       heard ! _ (λ some_left.
       enter ! _ _ _ _ _ $ alloc_all ! (λ l. pass_all ! refl ((tt, tt), tt) $
       opens_self ! tt Row κ q self (lowers ℓ item (param_laws 0 T laws)) $
-      -- [self's cell; what it owns; the open borrow, in three; the tokens of κa and κT; the locals]
+      -- Context: [the cell of self; its resources; the open borrow, in three parts; the tokens of κa and κT; the
+      -- locals]
       move ! (1 ∷ []) $ sides ! tt s ℓ T laws h (λ fits _.
       sets ! (addr ! (near_place ! s refl)) refl (tt, tt) $
       move ! (3 ∷ []) $ rewrite ! 0 (λ u. ‵ (fat full_share Bare b o u)) (by_sides s h rows) refl $
       use1 𝓛 (‵ (fat full_share word b (o + offset s) (slice_of x)) ⊛ raw
       (Around 𝓛 b o word (offset s) (λ u. whole_by s u rows other)))
       (near_out 𝓛 b o (slice_of x) rows other s) $ split ! $
-      -- [the field; self's cell without it; this end; the rows; the other end; the open borrow; the tokens of κa and
-      -- κT; the locals]
+      -- Context: [the field; the cell of self without it; this end; the rows; the other end; the open borrow; the
+      -- tokens of κa and κT; the locals]
       move ! (0 ∷ 2 ∷ 8 ∷ []) $ calls_take ! run 𝓜.mem 𝓡.returns T κa (take_meets κa inA) qa x b (o + offset s) inA
       (λ α γ. and_then ! (get ! refl) (no_more !)) (λ e empty.
       lands_as ! refl refl (slice_fits fits) $
-      -- [the field; what it owns now; this end; the token of κa; self's cell without the field; the rows; the other
-      -- end; the open borrow; the token of κT; ..]
+      -- Context: [the field; its new resources; this end; the token of κa; the cell of self without the field; the
+      -- rows; the other end; the open borrow; the token of κT; ..]
       let left = whole_by s (slice_val e.ref_ptr 0) rows other in
       move ! (0 ∷ 4 ∷ []) $ use2 𝓛 (‵ (fat full_share Bare b o left))
       (field_in 𝓛 b o word (offset s) (λ u. whole_by s u rows other) (slice_val e.ref_ptr 0)) $
       use1 𝓛 (‵ (fat full_share (Named ℓ item) b o left)) (as_named 𝓛 b o ℓ item left) $ move ! (1 ∷ []) $ drop ! $
-      -- [self's cell; this end; the token of κa; the rows; the other end; the open borrow; the token of κT; the locals]
+      -- Context: [the cell of self; this end; the token of κa; the rows; the other end; the open borrow; the token of
+      -- κT; the locals]
       move ! (1 ∷ 2 ∷ 8 ∷ []) $ cuts_one ! run T s cut_meets κa κT qa qT aT inT x some_left
       (and_then ! (get ! refl) (no_more !)) (λ pixel rest is rest_fits.
       lands_as ! refl refl (tt, (tt, ((tt, (record { fits = rest_fits }, tt)), tt))) $
-      -- [the pixel; the rest; how this end ends; the tokens of κa and κT; self's cell; the rows; the other end; the
-      -- open borrow; the locals]
+      -- Context: [the pixel; the rest; how this end ends; the tokens of κa and κT; the cell of self; the rows; the
+      -- other end; the open borrow; the locals]
       sets ! (of_opd ! (get_in ! (fld ! refl (stop !)) (sub ! 0 refl (whole !)))) refl (tt, tt) $
       sets ! (of_opd ! (get_in ! (fld ! refl (stop !)) (sub ! 1 refl (whole !)))) refl (slice_fits rest_fits) $
       sets ! (addr ! (from ! (fld ! refl (hop ! (look_in_at ! 3 (sub ! 0 refl (whole !))) (stop !))))) refl (tt, tt) $
@@ -97,7 +98,7 @@ module _ {M : Type 1} {𝓤 : Ura M} (𝓛 : Logic 𝓤) (𝓜 : Model 𝓤 𝓛
       move ! (1 ∷ 6 ∷ 7 ∷ 5 ∷ []) $ joins_by ! s ℓ T b o rest h.rows (far s h) countable $
       move ! (0 ∷ 1 ∷ 6 ∷ 7 ∷ 8 ∷ []) $ closes ! tt Row new (lowered new ∷ []) b o $
       returns ! (look_at ! 0 refl) $ free_all ! refl $
-      -- [self, in two; the token of κ; the pixel; how this end ends; the tokens of κa and κT]
+      -- Context: [self, in two parts; the token of κ; the pixel; how this end ends; the tokens of κa and κT]
       move ! (4 ∷ []) $ use1 𝓛 (‵ (Takes s item h pixel new)) (takes_near 𝓛 item h pixel rest s is countable) $
       move ! (4 ∷ 1 ∷ 2 ∷ 3 ∷ 5 ∷ 6 ∷ []) $ gives ! m κs qs bounds self _ pixel new $ frame ! $ told !
       (steps h s pixel rest is countable)))))))

@@ -1,5 +1,4 @@
--- The final values of an iterator over lent pixels, of the parts that its front, its rows and its back end as. Assumes
--- `Logic`.
+-- The final values of an iterator over lent pixels, from those of its front, its rows and its back. Assumes `Logic`.
 use Rattle.v_frame_buffer.proofs.Steps.{List, [], ◌∷◌, RattleType, ent, Ura, ‵, ◌$◌, ◌∵◌, !, qed, done, fpack, Logic}
 use Rattle.v_frame_buffer.proofs.Steps.{sem, Fml, fex, fsep}
 use Rattle.v_frame_plane.specs.FinalRows.{EndsAs, FinalRows}

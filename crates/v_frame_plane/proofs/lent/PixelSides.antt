@@ -1,11 +1,12 @@
--- The end of an iterator that lends pixels at which a function works, in code, in memory and in contracts, so that one
--- proof follows the functions of both
--- ends. Assumes `Logic`.
---     near_len, near_fits     the length of this end's row, as code reads it of self, and that it fits
---     near_place, near_part, near_out, far_out     the field of this end in code, in the cell of self, and out of it
--- whole_by, by_sides     self as a machine value, of its parts as seen from this end.        sides, joins_by     self,
--- apart, and again together
---     cut_clauses, row_draw, pixel_draw, pixel_of_row     the contracts of the functions of this end
+-- The end of an iterator that lends pixels at which a function works, in code, in memory and in contracts. With these
+-- definitions, one proof covers the functions of both ends. Assumes `Logic`.
+-- - near_len, near_fits: the length of the begun row at this end, as code reads it from self, and the fact that it
+--   fits.
+-- - near_place, near_part, near_out, far_out: the field of this end in code, in the cell of self, and taken out of
+--   it.
+-- - whole_by, by_sides: self as a machine value, from its parts as seen from this end.
+-- - sides, joins_by: self split into its parts, and joined again.
+-- - cut_clauses, row_draw, pixel_draw, pixel_of_row: the contracts of the functions of this end.
 use Rattle.v_frame_buffer.proofs.Steps.{ℕ, ◌≡◌, ◌+◌, ◌^◌, ◌<◌, List, [], ◌∷◌, length, MutBor, ⊤, MakesProgress}
 use Rattle.v_frame_buffer.proofs.Steps.{item_count, Share, Step, step, !, refl, ◌$◌, move, Array, Laws, MutSlice}
 use Rattle.v_frame_buffer.proofs.Steps.{NamedLft, Goal, Seq, Soaks, follows_both, full_share, fat, ftrue, ent, sep}
@@ -27,7 +28,7 @@ use Rattle.std.specs.contracts.option.Option as Opt
 use Rattle.v_frame_plane.specs.contracts.pixels_mut.cut_first
 use Rattle.v_frame_plane.specs.contracts.rows_mut.RowsMut as rows_mut
 
--- self as a machine value, of its field at this end, its rows and its field at the other end
+-- Self as a machine value, from its field at this end, its rows and its field at the other end.
 abbrev pub whole_by : Side → Val → Val → Val → Val
 whole_by s near rows far = whole (at_side s near far) rows (at_side s far near)
 
@@ -45,7 +46,7 @@ module _ {M : Type 1} {𝓤 : Ura M} (𝓛 : Logic 𝓤) (T : RattleType) (s : S
         (fact 𝓤 (a.0.now ≡ put s r.0.now r.1.now));
   }
 
--- the methods of this end, of rows and of pixels
+-- The methods of this end, for rows and for pixels.
 module _ {M : Type 1} (𝓤 : Ura M) (T : RattleType) (s : Side) where
   abbrev pub row_draw : Method 𝓤
   row_draw = record {
@@ -67,7 +68,7 @@ module _ {M : Type 1} (𝓤 : Ura M) (T : RattleType) (s : Side) where
         raw (fact 𝓤 (MakesProgress (λ _. ⊤) (item_count pixels_left) old pixel new));
   }
 
-  -- of a row that was begun there and has a pixel
+  -- The method for a begun row at this end that has a pixel.
   abbrev pub pixel_of_row : Method 𝓤
   pixel_of_row = record {
     Self = λ ℓ. the_row ℓ (param 0 T);
@@ -77,7 +78,7 @@ module _ {M : Type 1} (𝓤 : Ura M) (T : RattleType) (s : Side) where
     says = λ _ old pixel new. ‵ (Takes s (param 0 T) old pixel new) ⊛ raw (fact 𝓤 (Steps s old pixel new));
   }
 
--- a slice, and self where code goes through a reference to it, of the names that it and its rows have there
+-- A slice, and self behind a reference, by the names that self and its rows have in the code.
 abbrev pub part : Ty
 part = slice_ty (ty_ref erased mut (ty_param 0))
 
@@ -98,7 +99,7 @@ module _ {M : Type 1} {𝓤 : Ura M} {𝓛 : Logic 𝓤} {Γ : List (Item 𝓤)}
       of_opd ! (load ! (through ! here (fld ! refl (fld ! refl (stop !))))
       (look_in ! 0 (sub ! 1 refl (sub ! 2 refl cell))))
 
-  -- its field at this end, and that field of its cell
+  -- The field at this end, and this field in its cell.
   pub near_place : Go {0} → (s : Side) {ν ρ : Sym} {p : Share} {b o : ℕ} → at 𝓛 1 Γ ≡ ‵
       (fat p self.0 self.1 0 (vptr b o)) →
       Finds (Go {0}) 𝓛 Γ (result ∷ self ∷ locals) (place 1 (deref (Walk ν ρ) ∷ field (slot s) ∷ []))
@@ -114,7 +115,7 @@ module _ {M : Type 1} {𝓤 : Ura M} {𝓛 : Logic 𝓤} where
   near_part t at_front a T near rows far cell = sub ! 0 refl cell
   near_part t at_back a T near rows far cell = sub ! 2 refl cell
 
--- self as a machine value, with these for its rows
+-- Self as a machine value with these rows.
 pub by_sides : {X : Type 0} (s : Side) (walk : PixelsMut X) (rows : Val) → whole (slice_of walk.front) rows
     (slice_of walk.back) ≡
     whole_by s (slice_of (near s walk)) rows (slice_of (far s walk))

@@ -1,4 +1,4 @@
--- That an iterator over lent pixels which is dropped has as final values what it shows. Assumes `Logic`.
+-- The final values of a dropped iterator over lent pixels are its current pixels. Assumes `Logic`.
 use Rattle.v_frame_buffer.proofs.Steps.{List, [], ◌∷◌, refl, ent, RattleType, NamedLft, Val, Ura, ‵, ◌$◌, ◌∵◌, !, qed}
 use Rattle.v_frame_buffer.proofs.Steps.{done, drop, fjoin3, fpick, fsplit, keep, move, use1, Logic, sem}
 use Rattle.v_frame_plane.specs.PixelsLeft.{pixels_left}

@@ -1,6 +1,9 @@
--- What the numbers of an iterator that lends rows are before and after `next` and `next_back`, of which `s` is the end.
---     number, place_of, start_of     the row that is taken, where it begins, and where the next one begins then
---     Cut     the slice is cut where the row begins, and where it ends.        left     the iterator that is left of it
+-- The numbers in an iterator that lends rows, before and after `next` and `next_back`. The end at which a call works
+-- is `s`.
+-- - number, place_of, start_of: the row that is taken, the index where it begins, and the index where the next row
+--   begins afterwards.
+-- - Cut: the slice is split where the row begins and where it ends.
+-- - left: the iterator after the call.
 use Rattle.v_frame_buffer.proofs.Steps.{ℕ, zero, suc, ◌≡◌, ◌+◌, ◌-◌, ◌*◌, ◌^◌, ◌<◌, ◌≤◌, List, length, take, list_drop}
 use Rattle.v_frame_buffer.proofs.Steps.{Option, Some, None, MutBor, refl, ap, ◌∙◌, arith, length-take-le, length-drop}
 use Rattle.v_frame_buffer.proofs.Steps.{not, ⊤, T, T_not, eqb, MakesProgress, item_count}
@@ -11,7 +14,7 @@ use Rattle.v_frame_plane.proofs.iterators.Cursors.{count_of_rows, first_row, las
 use Rattle.v_frame_plane.proofs.lent.RowMemory.{moved}
 use Rattle.v_frame_plane.proofs.lent.Sides.{Side, at_front, at_back, at_side, YieldsRow}
 
--- the test that both begin with
+-- The test with which both functions begin.
 pub some_left : (count : ℕ) → T (not (eqb count 0)) → 0 < count
 some_left zero h = absurd (T_not (eqb 0 0) h tt)
 some_left (suc count) h = omega arith

@@ -1,5 +1,5 @@
--- How an iterator's slice ends, of which rows were lent: what a call leaves of the final values, and what an iterator
--- that is dropped does. Assumes `Logic`.
+-- The final slice of an iterator that lent rows: the effect of a call on the final values, and of dropping the
+-- iterator. Assumes `Logic`.
 use Rattle.v_frame_buffer.proofs.Steps.{◌≡◌, ◌-◌, ◌<◌, List, [], ◌∷◌, ◌++◌, length, MutBor, refl, sym, ◌∙◌, SProp, all}
 use Rattle.v_frame_buffer.proofs.Steps.{emp, ent, sep, wand, RattleType, NamedLft, Val, Ura, ‵, ◌⊛◌, ◌$◌, ◌∵◌, !, qed}
 use Rattle.v_frame_buffer.proofs.Steps.{assume, done, drop, each, fpick, fsplit, keep, move, rewrite, split, use1}
@@ -18,7 +18,7 @@ module _ {M : Type 1} {𝓤 : Ura M} (𝓛 : Logic 𝓤) (T : RattleType) where
   abbrev Ends : MutBor (List T.Denot) → List T.Denot → SProp 𝓤
   Ends x xs = sem 𝓛 (EndsAs T x.ghost_name xs)
 
-  -- where nothing is taken nothing changes
+  -- If nothing is taken, nothing changes.
   pub keeps_rows : (walk : RowsMut T.Denot) → ent 𝓤 (emp 𝓤) (sem 𝓛 (KeepsRows T walk walk))
   keeps_rows walk = let FinalItems = FinalRows T walk in
       qed 𝓛 [] ∵ each ! (λ (second : List (List T.Denot)). wand 𝓤 (sem 𝓛 (FinalItems second))
@@ -50,7 +50,7 @@ module _ {M : Type 1} {𝓤 : Ura M} (𝓛 : Logic 𝓤) (T : RattleType) where
         let entries : before.now ++ (held.0 ++ rest) ≡ entries_with old (held.0 ∷ held.1) =
         rw (cut.before_is, behind_all old before at row behind more at_front cut)
         (with_first_row old.start old.width old.gap old.count old.rest.now held.0 held.1 more) in
-        -- [the row; the rest; what lies in front; how both are cut]
+        -- Context: [the row; the rest; the part in front; how both are cut]
         move ! (4 ∷ 0 ∷ 1 ∷ []) $ joins ! T _ _ $ move ! (2 ∷ 1 ∷ 0 ∷ []) $ joins ! T _ _ $
         rewrite ! 0 (λ (xs : List T.Denot). ‵ (EndsAs T old.rest.ghost_name xs)) entries refl $ done !)
     leaves_row at_back cut =
@@ -68,11 +68,11 @@ module _ {M : Type 1} {𝓤 : Ura M} (𝓛 : Logic 𝓤) (T : RattleType) where
         let entries : rest ++ (held.0 ++ behind.now) ≡ entries_with old (held.1 ++ held.0 ∷ []) =
         rw (cut.before_is, behind_all old before at row behind more at_back cut)
         (with_last_row old.start old.width old.gap old.count old.rest.now held.0 held.1 more many) in
-        -- [the row; the rest; what lies behind; how both are cut]
+        -- Context: [the row; the rest; the part behind; how both are cut]
         move ! (4 ∷ 0 ∷ 2 ∷ []) $ joins ! T _ _ $ move ! (2 ∷ 1 ∷ 0 ∷ []) $ joins ! T _ _ $
         rewrite ! 0 (λ (xs : List T.Denot). ‵ (EndsAs T old.rest.ghost_name xs)) entries refl $ done !))
 
-  -- an iterator that is dropped has as final values what it shows
+  -- The final values of a dropped iterator are its current rows.
   pub rows_dropped : (a : NamedLft) (walk : RowsMut T.Denot) (vs : List Val) →
       ent 𝓤 (sem 𝓛 ((the_row a T).own_val walk vs)) (sem 𝓛 (FinalRows T walk (rows_left walk)))
   unfolding FinalRows rows_left

@@ -1,6 +1,8 @@
--- An iterator that lends rows, in memory, for the proofs by hand of its `next` and `next_back`. Assumes `Logic`.
---     takes_slice     `take` at its slice.        moved     it after a call
---     bare, walk_owned     what it is made of again
+-- The memory of an iterator that lends rows, for the hand-written proofs of its `next` and `next_back`. Assumes
+-- `Logic`.
+-- - takes_slice: a call of `take` on its slice.
+-- - moved: the iterator after a call.
+-- - bare, walk_owned: the parts from which it is joined again.
 use Rattle.v_frame_buffer.proofs.Steps.{ℕ, ◌+◌, ◌^◌, ◌<◌, List, [], ◌∷◌, length, w64, MutBor, refl, Share, fat, flent}
 use Rattle.v_frame_buffer.proofs.Steps.{flft, full_share, SProp, all, ent, wand, ◌⊑◌, Fun, usize, shows, mem, param}
 use Rattle.v_frame_buffer.proofs.Steps.{uint_vals, uint_Makes, RattleType, Valss, NamedLft, MutSlice, slice_ty}
@@ -18,7 +20,7 @@ pub use Rattle.v_frame_buffer.proofs.Slices.{slice_of}
 use Rattle.v_frame_buffer.proofs.Loans.{Back, at_one}
 use Rattle.v_frame_plane.proofs.lent.Taken.{Slice, Take, Taken, asked, calls_take, word}
 
--- its numbers, where `start` and `count` are these, and it as a machine value
+-- The numbers of the iterator with these values of `start` and `count`, and the iterator as a machine value.
 abbrev pub Numbers : Tys
 Numbers = tcons (ty_int w64) (tcons (ty_int w64) (tcons (ty_int w64) (tcons (ty_int w64) tnil)))
 
@@ -29,7 +31,7 @@ numbers walk start count = vcons (vint w64 start) (vcons (vint w64 walk.width)
 abbrev pub lowered : {X : Type 0} → RowsMut X → Val
 lowered walk = vstruct (vcons (slice_of walk.rest) (numbers walk walk.start walk.count))
 
--- the positions of its fields
+-- The positions of its fields.
 abbrev pub start_at : ℕ
 start_at = 1
 
@@ -42,20 +44,20 @@ gap_at = 3
 abbrev pub count_at : ℕ
 count_at = 4
 
--- its type, as the machine sees it and as code names it
+-- The type of the iterator, in the machine and by name in the code.
 abbrev pub Bare : Ty
 Bare = ty_struct [] (tcons word Numbers)
 
 abbrev pub Named : (a : NamedLft) (T : RattleType) → Ty
 Named a T = ty_struct (struct a T).name (tcons (slice_ty (ty_ref erased mut (ty_param 0))) Numbers)
 
--- it after a call, with another slice, start and count
+-- The iterator after a call, with another slice, start and count.
 abbrev pub moved : {X : Type 0} (walk : RowsMut X) (rest : MutBor (List X)) (start count : ℕ) →
     RowsAreWithin start walk.width walk.gap count (length rest.now) → RowsMut X
 moved walk rest start count within =
     record { rest = rest; start = start; width = walk.width; gap = walk.gap; count = count; within = within }
 
--- in a cell it is well typed: its numbers fit, and so does the length of its slice
+-- The iterator is well typed in a cell: its numbers fit, and so does the length of its slice.
 abbrev pub WellTyped : {X : Type 0} → RowsMut X → Type 0
 WellTyped walk = T (has_ty Bare (lowered walk)) × WT (lowered walk)
 
@@ -89,7 +91,7 @@ module _ {M : Type 1} {𝓤 : Ura M} (𝓛 : Logic 𝓤) (b o : ℕ) (ns : Vals)
       (𝓛.H.at full_share (Named a T) b o (vstruct (vcons v ns))) (Whole v)
   bare a T v = 𝓛.laws.at_raw full_share (Named a T) b o (vstruct (vcons v ns))
 
--- what an iterator owns after a call, from what its slice does
+-- The resources of an iterator after a call, from the resources of its slice.
 pub walk_owned : {M : Type 1} {𝓤 : Ura M} (𝓛 : Logic 𝓤) (a : NamedLft) (T : RattleType) (old : RowsMut T.Denot) →
     WellTyped old →
     (rest : MutBor (List T.Denot)) (start count : ℕ)
@@ -115,7 +117,7 @@ walk_owned 𝓛 a T old ok rest start count inside s c =
 module _ {M : Type 1} {𝓤 : Ura M} {𝓛 : Logic 𝓤} {K : Type 0} {Γ : List (Item 𝓤)} {E : Env 𝓤 𝓛.H} {C : Calls 𝓤 𝓛.H}
     {Λ : Loops 𝓤 𝓛.H} {f : Callee} {xs :
     List Operand} {d : Place} {rest : Code} {p : Post 𝓤 𝓛.H} where
-  -- `take` at its slice: the iterator with another slice in its field, the slice that it had, and the token
+  -- A call of `take` on its slice: the iterator with another slice in its field, the old slice, and the token.
   pub takes_slice : K → FmC 𝓤 𝓛.H 𝓛.laws C → (at_mem : Memory → SProp 𝓤) (run : Routine → Fun 𝓤) (T : RattleType)
       (a : NamedLft) →
       Triple 𝓤 (C f) (Take 𝓛 at_mem run T a.lft) → (q : Share) (walk : RowsMut T.Denot) (b o : ℕ) (ns : Vals) → a.lft ⊑
@@ -140,9 +142,9 @@ module _ {M : Type 1} {𝓤 : Ura M} {𝓛 : Logic 𝓤} {K : Type 0} {Γ : List
       move t (1 ∷ []) $ drop t $ move t (1 ∷ []) $ use1 𝓛 (‵ (fat full_share word b (o + 0) held) ⊛
       raw (Around 𝓛 b o ns)) (𝓛.laws.at_field full_share [] (tcons word Numbers) 0 word 0 refl b o (vcons held ns)) $
       split t $
-      -- [the field; the way back; the slice; the token]
+      -- Context: [the field; the way back; the slice; the token]
       move t (0 ∷ 2 ∷ 3 ∷ []) $ calls_take t fm at_mem run T a.lft met q walk.rest b (o + 0) inT os (λ e _.
-      -- [the field; what it owns now; the slice; the token; the way back]
+      -- Context: [the field; its new resources; the slice; the token; the way back]
       let walk' = vstruct (vcons (slice_val e.ref_ptr 0) ns) in
       move t (1 ∷ []) $ drop t $ move t (3 ∷ 0 ∷ []) $
       use2 𝓛 (‵ (fat full_share Bare b o walk')) (at_one 𝓛 (Slot 𝓛 b o ns) (Whole 𝓛 b o ns) (slice_val e.ref_ptr 0)) $

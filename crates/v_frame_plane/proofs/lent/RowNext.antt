@@ -1,7 +1,6 @@
--- `next` and `next_back` of an iterator that lends rows, of which `s` is the one end: the slice is cut where the row
--- next to that end begins and where it ends,
--- and what lies towards the other end is kept. A `&mut` in a field of self no generated proof follows, so this one
--- follows the code. Assumes `Logic`.
+-- `next` and `next_back` of an iterator that lends rows. The end at which a function works is `s`. The slice is split
+-- where the next row at this end begins and where it ends, and the part towards the other end is kept. Generated
+-- proofs cannot follow a `&mut` in a field of self, so this hand-written proof follows the code. Assumes `Logic`.
 use Rattle.v_frame_buffer.proofs.Steps.{param_laws, ℕ, ◌≡◌, ◌+◌, ◌-◌, ◌*◌, ◌^◌, ◌<◌, List, [], ◌∷◌, length, Some, None}
 use Rattle.v_frame_buffer.proofs.Steps.{lit<, w64, Val, fat, slice_val, vcons, vstruct, refl, ap, ◌∙◌, arith}
 use Rattle.v_frame_buffer.proofs.Steps.{length-drop, Some-of, none_of, full_share, id⊢, ⊑_trans, fact, tables, param}
@@ -38,7 +37,7 @@ use Rattle.std.specs.contracts.option.Option as Opt
 use Rattle.v_frame_plane.specs.contracts.rows_mut.RowsMut as rows_mut
 use Rattle.v_frame_plane.specs.contracts.rows_mut.row_place
 
--- what code reads by side
+-- The parts of the code that depend on the end.
 module _ {M : Type 1} {𝓤 : Ura M} {𝓛 : Logic 𝓤} {K : Type 0} {Γ : List (Item 𝓤)} {E : Env 𝓤 𝓛.H} where
   opd_by : (s : Side) (v : Side → Val) {x y : Operand} → Opd K 𝓛 Γ E x (v at_front) → Opd K 𝓛 Γ E y (v at_back) → Opd K
       𝓛 Γ E (at_side s x y) (v s)
@@ -49,15 +48,15 @@ module _ {M : Type 1} {𝓤 : Ura M} {𝓛 : Logic 𝓤} {K : Type 0} {Γ : List
   rv_by s v {x} {y} front back = by_side (λ e. Rv K 𝓛 Γ E (at_side e x y) (v e)) front back s
 
 module _ {M : Type 1} {𝓤 : Ura M} {𝓛 : Logic 𝓤} {K : Type 0} {X : Type 0} {Γ : List (Item 𝓤)} {G : Goal 𝓤 𝓛.H} where
-  -- what is kept, and then the other one
+  -- The part that is kept, followed by the other part.
   kept_first : K → (s : Side) (Own : X → Item 𝓤) (behind before : X) → Step K 𝓛
       (Own (at_side s behind before) ∷ Own (at_side s before behind) ∷ Γ) G
       (Own behind ∷ Own before ∷ Γ) G
   kept_first t at_front Own behind before = step (λ k. k)
   kept_first t at_back Own behind before = step (λ k. move t (1 ∷ 0 ∷ []) $ k)
 
--- the code and its proof, over the code's names for what a call gives, self and two parts, the types of self and of an
--- entry, and the functions that it calls
+-- The code and its proof. The parameters are the names in the code for the result, for self and for two parts, the
+-- types of self and of an entry, and the called functions.
 module _ {M : Type 1} {𝓤 : Ura M} (𝓛 : Logic 𝓤) (𝓜 : Model 𝓤 𝓛.H) (𝓡 : Running 𝓤 𝓛.H 𝓜) (T : RattleType)
     (laws : Laws T) (s : Side)
     (option self pair : Sym) (kept entry : Ty) (placing taking splitting : Callee) where
@@ -67,7 +66,7 @@ module _ {M : Type 1} {𝓤 : Ura M} (𝓛 : Logic 𝓤) (𝓜 : Model 𝓤 𝓛
   abbrev own : ℕ → Place
   own k = place 1 (deref Self ∷ field k ∷ [])
 
-  -- part k of the two in local i is lent on: its pointer, and then the slice, of the pointer in local j
+  -- Part k of the two parts in local i is passed on: first its pointer, and then the slice at the pointer in local j.
   abbrev pointer : (i k : ℕ) → Rvalue
   pointer i k = addr_of (place i (field k ∷ field 0 ∷ deref entry ∷ []))
 
@@ -117,7 +116,8 @@ module _ {M : Type 1} {𝓤 : Ura M} (𝓛 : Logic 𝓤) (𝓜 : Model 𝓤 𝓛
       let Post = Ends m 𝓛 κs qs bounds self in let inA = ⊑_trans κa κT T.lives aT inT in
       drop ! $ enter ! _ _ _ _ _ $ alloc_all ! (λ l. pass_all ! refl ((tt, tt), tt) $
       opens_self ! tt Row κ q self (lowers ℓ item (param_laws 0 T laws)) $
-      -- [self's cell; what it owns; the open borrow, in three; the tokens of κa and κT; the locals]
+      -- Context: [the cell of self; its resources; the open borrow, in three parts; the tokens of κa and κT; the
+      -- locals]
       well_typed ! (λ ok. let start_fits = start_fit h ok in let width_fits = width_fit h ok in let gap_fits = gap_fit
       h ok in
       let count_fits = count_fit h ok in
@@ -131,7 +131,7 @@ module _ {M : Type 1} {𝓤 : Ura M} (𝓛 : Logic 𝓤) (𝓜 : Model 𝓤 𝓛
       refl (tt, count_fits) $
       sets ! (bin ! (get ! refl) (lit ! tt) tt) refl (tt, tt) $
       first ! $ branches ! (get ! refl)
-      -- where no row is left all stays as it is
+      -- If no row remains, everything is unchanged.
       (λ empty. closes ! tt Row h (lowered h ∷ []) b o $
       sets ! (agg ! (and_then ! (lit ! tt) (no_more !))) refl (tt, (record { fits = lit< tt }, tt)) $
       returns_within ! Post refl (look_at ! 0 refl) $ free_all ! refl $
@@ -168,22 +168,23 @@ module _ {M : Type 1} {𝓤 : Ura M} (𝓛 : Logic 𝓤) (𝓜 : Model 𝓤 𝓛
       (numbers h h.start h.count) inA
       (λ α γ. and_then ! (get ! refl) (no_more !)) (λ e rest_fits.
       lands_as ! refl refl (slice_fits rest_fits) $
-      -- [self's cell; the slice; the token of κa; the open borrow, in three; the token of κT; the locals]
+      -- Context: [the cell of self; the slice; the token of κa; the open borrow, in three parts; the token of κT; the
+      -- locals]
       move ! (1 ∷ 2 ∷ 6 ∷ []) $ splits ! run 𝓜.mem 𝓡.returns T split_meets κa κT qa qT aT inT rest here place_fits
       (omega (arith, room))
       (and_then ! (get ! refl) (and_then ! (get ! refl) (no_more !))) (λ before at before_is at_is before_fits at_fits.
       lands_as ! refl refl (slices_fit before_fits at_fits) $
       sets ! (pointer_on ! (sub ! 1 refl (whole !)) refl) refl (tt, tt) $ sets !
       (slice_on ! (sub ! 1 refl (whole !)) refl refl) refl (slice_fits at_fits) $
-      -- [what lies in front; what begins with the row; how the slice ends; the tokens of κa and κT; self's cell; the
-      -- open borrow]
+      -- Context: [the part in front; the part from the row on; how the slice ends; the tokens of κa and κT; the cell
+      -- of self; the open borrow]
       move ! (1 ∷ 3 ∷ 4 ∷ []) $ splits ! run 𝓜.mem 𝓡.returns T split_meets κa κT qa qT aT inT at h.width width_fits.fits
       (omega (arith, room, ap length at_is, length-drop here rest.now))
       (and_then ! (get ! refl) (and_then ! (get ! refl) (no_more !)))
       (λ row behind row_is behind_is row_fits behind_fits.
       lands_as ! refl refl (slices_fit row_fits behind_fits) $
-      -- [the row; what lies behind; how the second part ends; the tokens of κa and κT; what lies in front; how the
-      -- slice ends; self's cell; the open borrow]
+      -- Context: [the row; the part behind; how the second part ends; the tokens of κa and κT; the part in front; how
+      -- the slice ends; the cell of self; the open borrow]
       let cut : Cut h before at row behind more s = record
       { before_is = before_is; at_is = at_is; row_is = row_is; behind_is = behind_is } in
       let new = left h before at row behind more s cut in let kept = at_side s behind before in let other = at_side s
@@ -216,18 +217,18 @@ module _ {M : Type 1} {𝓤 : Ura M} (𝓛 : Logic 𝓤) (𝓜 : Model 𝓤 𝓛
       sets ! (agg ! (and_then ! (lit ! tt) (and_then ! (get ! refl) (no_more !))))
       refl (tt, (record { fits = lit< tt }, ((tt, (record { fits = row_fits }, tt)), tt))) $
       move ! (2 ∷ 6 ∷ []) $ kept_first ! s (λ x. ‵ (Slice.own_val x (slice_of x ∷ []))) behind before $
-      -- [what is kept; the other part; self's cell; the row; how the second part ends; the tokens of κa and κT; how the
-      -- slice ends; the open borrow]
+      -- Context: [the kept part; the other part; the cell of self; the row; how the second part ends; the tokens of
+      -- κa and κT; how the slice ends; the open borrow]
       use1 𝓛 (‵ (Row.own_val new (lowered new ∷ [])))
       (walk_owned 𝓛 ℓ item h ok kept (start_of s h) (h.count - 1) new.within start'_fits fewer) $
       move ! (1 ∷ []) $ use1 𝓛 (‵ (EndsAs item other.ghost_name other.now)) (dropped 𝓛 item (named 0) κa other _) $
       move ! (2 ∷ 1 ∷ 8 ∷ 9 ∷ 10 ∷ []) $ closes ! tt Row new (lowered new ∷ []) b o $ returns ! (look_at ! 0 refl) $
       free_all ! refl $
-      -- [self, in two; the token of κ; how the other part ends; the row; how the second part ends; the tokens of κa and
-      -- κT; how the slice ends]
+      -- Context: [self, in two parts; the token of κ; how the other part ends; the row; how the second part ends; the
+      -- tokens of κa and κT; how the slice ends]
       move ! (3 ∷ 8 ∷ 5 ∷ []) $ use3 𝓛 (‵ (LendsRow s item h (Some row) new))
       (leaves_row 𝓛 item h before at row behind more s cut) $
       move ! (4 ∷ []) $ use1 𝓛 (‵ ((Opt.the_row Slice).own_val (Some row) (out ∷ []))) (Some-of 𝓛 Slice row part) $
-      -- [the row, as it is given; what the call leaves; self, in two; the tokens]
+      -- Context: [the row in the form of a result; the effect of the call; self, in two parts; the tokens]
       move ! (0 ∷ 2 ∷ 3 ∷ 4 ∷ 5 ∷ 6 ∷ []) $ gives ! m κs qs bounds self out (Some row) new $ frame ! $
       tells ! (draws h before at row behind more s cut) $ told ! (moves_on h before at row behind more s cut))))))))))))

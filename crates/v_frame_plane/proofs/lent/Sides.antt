@@ -1,11 +1,11 @@
--- The two ends of an iterator that lends pixels, so that one definition and one proof serve both.
--- near, far     the row that was begun from this end, and from the other.        slot, offset     the number of this
--- end's field, and its place in bytes
--- at_side, by_side     the one of two things, and of two proofs, that is this end's.        put     where a pixel
--- stands that was cut off there
---     walk_by     the iterator of its parts, as seen from this end
--- Steps, Yields, Takes, Lends     what is said of a call of a pixel from there.        RowSteps, YieldsRow, LendsRow
--- the same of a call of a row
+-- The two ends of an iterator that lends pixels, so that one definition and one proof cover both.
+-- - near, far: the begun row at this end, and the begun row at the other end.
+-- - slot, offset: the number of the field of this end, and its offset in bytes.
+-- - at_side, by_side: the one of two values, or of two proofs, for this end.
+-- - put: the list with a pixel put back at this end.
+-- - walk_by: the iterator with these parts, as seen from this end.
+-- - Steps, Yields, Takes, Lends: the clauses of a call that takes a pixel from this end.
+-- - RowSteps, YieldsRow, LendsRow: the clauses of a call that takes a row from this end.
 use Rattle.v_frame_buffer.proofs.Steps.{ℕ, ◌≡◌, List, [], ◌∷◌, ◌++◌, Option, Some, None, MutBor, YieldsFirstMut}
 use Rattle.v_frame_buffer.proofs.Steps.{YieldsLastMut, Fml, RattleType}
 use Rattle.v_frame_plane.specs.{Cursor.PixelsAreCountable, PixelsLeft.pixels_left, RowsLeft.rows_left}
@@ -32,7 +32,7 @@ slot s = at_side s 0 2
 abbrev pub other : Side → Side
 other s = at_side s at_back at_front
 
--- where that field begins, in bytes
+-- The offset of this field in bytes.
 abbrev pub offset : Side → ℕ
 offset s = at_side s 0 back_offset
 
@@ -77,7 +77,8 @@ module _ {X : Type 0} where
   no_rows s old new = by_side (λ e. YieldsRow e old None new → (rows_left old ≡ []) × (rows_left new ≡ []))
       (λ none. none) (λ none. none) s
 
--- this pixel is drawn at this end: what it and those that are left then hold, those that were left before do
+-- This pixel is taken at this end. The final values of the pixels before are those of the remaining pixels together
+-- with its own.
 abbrev pub Takes : Side → (T : RattleType) → PixelsMut T.Denot → MutBor T.Denot → PixelsMut T.Denot → Fml
 Takes s T old pixel new = TakesItem (PixelEndsAs T) (FinalPixels T) (put s) old new pixel
 

@@ -1,8 +1,8 @@
--- A `&mut [T]` of the lifetime κ in a proof by hand: what takes it out of its place, and what may give one. Assumes
--- `Logic`.
--- calls_take     a call of `mem::take`: the place is lent to the call, and holds an empty slice afterwards: what it
--- held is handed back
---     by_row         whether a call of `next` or `next_back` of an iterator over lent rows gave a row
+-- A `&mut [T]` of the lifetime κ in a hand-written proof: the call that takes it out of its place, and the calls that
+-- may yield one. Assumes `Logic`.
+-- - calls_take: a call of `mem::take`. The place is lent to the call and holds an empty slice afterwards. The old
+--   value is returned.
+-- - by_row: the cases of a call of `next` or `next_back` of an iterator over lent rows, which may yield a row.
 use Rattle.v_frame_buffer.proofs.Steps.{ℕ, ◌≡◌, List, [], ◌∷◌, length, w64, MutBor, refl, ap, ◌∙◌, Lft, Share, fat}
 use Rattle.v_frame_buffer.proofs.Steps.{flent, flft, full_share, SProp, id⊢, ◌⊑◌, ⊑_trans, Fun, fact, shows, mem, param}
 use Rattle.v_frame_buffer.proofs.Steps.{Laws, param_laws, RattleType, NamedLft, MutSlice, slice_val, heard, only, peeks}
@@ -28,7 +28,7 @@ use Rattle.core.proofs.mem.take.Symbol as take_code
 use Rattle.core.proofs.slice.empty.RefMutSliceDefault.TheImpl.Met as default_met
 use Rattle.core.proofs.slice.empty.RefMutSliceDefault.default.Symbol as default_code
 
--- a slice as a place in memory has it
+-- A slice in the form that a place in memory has.
 abbrev pub word : Ty
 word = ty_struct [] (tcons ty_ptr (tcons (ty_int w64) tnil))
 
@@ -64,12 +64,12 @@ module _ {M : Type 1} {𝓤 : Ura M} (𝓛 : Logic 𝓤) (at_mem : Memory → SP
         let place : MutBor (MutBor (List T.Denot)) = record { ref_ptr = (b, o); ghost_name = γ; now = x } in
         (((κ', (κ', tt)), (Share.left s, (Share.right s, tt)), (⊑_refl κ', tt), (place, tt), (vptr b o ∷ [], tt)), tt)
 
--- this is `take`, at each lifetime
+-- This function is `take`, at each lifetime.
 abbrev pub IsTake : {M : Type 1} {𝓤 : Ura M} (𝓛 : Logic 𝓤) (at_mem : Memory → SProp 𝓤) (run : Routine → Fun 𝓤)
     (T : RattleType) → Fun 𝓤 → Type 1
 IsTake {𝓤 = 𝓤} 𝓛 at_mem run T taking = (κ : Lft) → κ ⊑ T.lives → Triple 𝓤 taking (Take 𝓛 at_mem run T κ)
 
--- the call does what `take` promises
+-- The call has the effect that `take` promises.
 pub take_meets : {M : Type 1} {𝓤 : Ura M} (𝓛 : Logic 𝓤) (𝓜 : Model 𝓤 𝓛.H) (𝓡 : Running 𝓤 𝓛.H 𝓜) → Wired 𝓡.env
     take_code.code → Wired 𝓡.env default_code.code →
     (T : RattleType) (laws : Laws T) (κ : Lft) → κ ⊑ T.lives
@@ -83,7 +83,7 @@ take_meets {M} {𝓤} 𝓛 𝓜 𝓡 takes defaults T laws κ inT =
 module _ {M : Type 1} {𝓤 : Ura M} {𝓛 : Logic 𝓤} {K : Type 0} {Γ : List (Item 𝓤)} {E : Env 𝓤 𝓛.H} {C : Calls 𝓤 𝓛.H}
     {Λ : Loops 𝓤 𝓛.H} {f : Callee} {xs :
     List Operand} {d : Place} {rest : Code} {p : Post 𝓤 𝓛.H} where
-  -- up to where what the place held is stored: the place holds an empty slice then
+  -- Everything up to the store of the old value. The place then holds an empty slice.
   pub calls_take : K → FmC 𝓤 𝓛.H 𝓛.laws C → (at_mem : Memory → SProp 𝓤) (run : Routine → Fun 𝓤) (T : RattleType)
       (κ : Lft) →
       Triple 𝓤 (C f) (Take 𝓛 at_mem run T κ) → (q : Share) (x : MutBor (List T.Denot)) (b o : ℕ) → κ ⊑ T.lives
@@ -102,7 +102,7 @@ module _ {M : Type 1} {𝓤 : Ura M} {𝓛 : Logic 𝓤} {K : Type 0} {Γ : List
       lends t tt X refl word refl κ q x b o (held x) (λ α γ. let κ' : Lft = α ∷ κ in
       let within : κ' ⊑ X.lives = ⊑_meet κ' κ T.lives (meet_⊑_right (α ∷ []) κ)
       (⊑_trans κ' κ T.lives (meet_⊑_right (α ∷ []) κ) inT) in
-      -- [the place, lent; what its lender keeps; the token of κ'; the way back to that of κ]
+      -- Context: [the lent place; the lender's part; the token of κ'; the way back to that of κ]
       move t (2 ∷ []) $ use1 𝓛 (‵ (flft κ' (Share.left s)) ⊛ ‵ (flft κ' (Share.right s))) (𝓛.lfts.lft_split κ' s) $
       split t $
       calls t (0 ∷ 1 ∷ 2 ∷ []) fm (take.ended X (ghosts (element T κ)) (dict (element T κ)))
@@ -111,14 +111,14 @@ module _ {M : Type 1} {𝓤 : Ura M} {𝓛 : Logic 𝓤} {K : Type 0} {Γ : List
       (λ r ws. raw (fact 𝓤 (r ≡ x)) ∷ raw (fact 𝓤 (ws.0.now ≡ [])) ∷ []) (λ r ws. id⊢ 𝓤 _) (λ v r ws.
       move t (1 ∷ 2 ∷ []) $ heard t _ (λ same. heard t _
       (λ empty. move t (1 ∷ 2 ∷ []) $ use2 𝓛 (‵ (flft κ' s)) (𝓛.lfts.lft_join κ' s) $
-      -- [the token of κ'; what was handed back; the last value lent, and its borrow; what the lender keeps; the way
+      -- Context: [the token of κ'; the old value; the last value lent, and its borrow; the lender's part; the way
       -- back to the token of κ]
       let e = ws.0 in
       move t (0 ∷ 4 ∷ []) $ lft_over t tt α κ q $ move t (3 ∷ []) $ fsplit t $
       move t (2 ∷ 5 ∷ 0 ∷ []) $ comes_back t tt X refl word refl κ' γ b o e (slice_val e.ref_ptr 0)
       (λ u holds. ap only holds.0.0 ∙
       ap (λ (xs : List T.Denot). slice_val e.ref_ptr (length xs)) empty) $
-      -- [the place; what it owns; its borrow; the token of κ; what was handed back]
+      -- Context: [the place; its resources; its borrow; the token of κ; the old value]
       move t (4 ∷ []) $ rewrite t 0 (λ (r : MutBor (List T.Denot)). ‵ ((Slice T κ).own_val r (v ∷ []))) same refl $
       spelt t (Slice T κ) held (λ r vs is. is.0.0) x v (λ is _. move t (3 ∷ []) $ drop t $ move t (1 ∷ 2 ∷ 0 ∷ []) $
       regoal t (λ (u : Val). lands C Λ E d u rest p) is refl $ k e empty)))))

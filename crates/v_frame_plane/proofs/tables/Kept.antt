@@ -1,4 +1,4 @@
--- A buffer that is written keeps its length, so it stays whole.
+-- Writes into a buffer keep its length, so it stays whole.
 use Rattle.std.proofs.Common.{ℕ, List, length, slice_set, ◌∙◌}
 use Rattle.std.proofs.lemmas.List.{length-set}
 use Rattle.std.specs.List.{refill}

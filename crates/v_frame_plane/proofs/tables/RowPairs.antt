@@ -1,4 +1,4 @@
--- Two rows of a buffer: what the table is where both are written.
+-- The table after writes into two rows of a buffer.
 use Rattle.std.proofs.Common.{ℕ, ◌≡◌, ◌≢◌, ◌+◌, ◌-◌, ◌<◌, ◌≤◌, List, ◌++◌, length, take, drop, Some, slice_get}
 use Rattle.std.proofs.Common.{slice_set, refl, sym, ◌∙◌, ap, subst, arith}
 use Rattle.std.proofs.Common.{append_assoc, length-append, length-drop, take-append-drop}
@@ -18,7 +18,7 @@ use Rattle.v_frame_raster.proofs.tables.Places.{row_wide}
 use Rattle.v_frame_plane.proofs.tables.RowWrites.{writes_each_row}
 
 module _ {T : Type 0} where
-  -- two parts that are written at once are one that is written after the other
+  -- Writing two parts at once is writing one after the other.
   parts_in_turn : (xs ys zs : List T) (start next width : ℕ) → start + width ≤ next → next + width ≤ length xs → length
       ys ≡ width → length zs ≡ width
       → refill (length xs) xs (with_two_parts xs start width next width ys zs) ≡ with_part (with_part xs start ys) next
@@ -60,7 +60,7 @@ module _ {T : Type 0} where
       ) refl
 
   module _ (p : Raster T) (whole : length p.buffer ≡ alloc_size_of p.geometry) where
-    -- two rows that are written where two lie replace both in the table, and leave the border
+    -- Writing two rows where two rows lie replaces both in the table, and keeps the border.
     pub writes_each_pair : (y z : ℕ) (old old_other : List T) → y < z → z < p.geometry.height → slice_get (table_of p)
         y ≡ Some old →
         slice_get (table_of p) z ≡ Some old_other → WritesEachPair p y z old old_other

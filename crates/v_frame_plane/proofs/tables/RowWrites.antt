@@ -1,4 +1,4 @@
--- One row of a buffer, and what lies after it: what the table is where the row is written.
+-- The table after a write into one row of a buffer, or into a row and the entries after it.
 use Rattle.std.proofs.Common.{ℕ, ◌≡◌, ◌+◌, ◌<◌, ◌≤◌, List, ◌++◌, length, take, drop, Some, slice_get, refl, sym, ◌∙◌}
 use Rattle.std.proofs.Common.{ap, subst, arith}
 use Rattle.std.proofs.lemmas.List.{drop-drop}
@@ -15,14 +15,14 @@ use Rattle.v_frame_raster.proofs.tables.Pictures.{border_overwritten}
 use Rattle.v_frame_raster.proofs.tables.Places.{row_wide}
 
 module _ {T : Type 0} where
-  -- what is written inside a list keeps its length
+  -- A write inside a list keeps the length of the list.
   with_part-overwritten : (xs ys : List T) (start : ℕ) → start + length ys ≤ length xs
       → with_part xs start ys ≡ overwritten xs start ys
   with_part-overwritten xs ys start inside =
       refill_same xs (overwritten xs start ys) (length-overwritten xs ys start inside)
 
   module _ (p : Raster T) (whole : length p.buffer ≡ alloc_size_of p.geometry) where
-    -- a row that is written where one lies replaces it in the table, and leaves the border
+    -- Writing a row where a row lies replaces it in the table, and keeps the border.
     pub writes_each_row : (y : ℕ) (old : List T) → y < p.geometry.height → slice_get (table_of p) y ≡ Some old
         → WritesEachRow p y old
     writes_each_row y old high is = λ row same.
@@ -38,7 +38,7 @@ module _ {T : Type 0} where
           others = λ k from_y. rw shown (others_are_read (table_of p) y k row from_y);
         })
 
-    -- and so does one in front of the rest of the buffer
+    -- This also holds for a row in front of the rest of the buffer.
     pub writes_each_front : (y : ℕ) (old rest : List T) → y < p.geometry.height → slice_get (table_of p) y ≡ Some old →
         rest ≡ drop (place_of p.geometry 0 y + p.geometry.width) p.buffer → WritesEachFront p y old rest
     writes_each_front y old rest high is behind = λ row same.

@@ -1,5 +1,5 @@
--- The entries of a buffer from the first pixel of a rectangle on, written as rows of a stride: the rectangle shows them then,
--- and all other pixels and the border are as they were.
+-- The entries of a buffer from the first pixel of a rectangle on are written as rows with a stride. The rectangle
+-- then shows these rows, and all other pixels and the border are unchanged.
 use Rattle.std.proofs.Common.{ℕ, ◌≡◌, ◌≢◌, ◌+◌, ◌-◌, ◌*◌, ◌<◌, ◌≤◌, ◌⊎◌, List, ◌++◌, length, take, drop, Some, slice_get}
 use Rattle.std.proofs.Common.{option_and_then, inl, inr, refl, sym, ◌∙◌, ap, arith, length-take-le, length-drop}
 use Rattle.std.proofs.Common.{length-append, ⊎_elim}
@@ -21,7 +21,7 @@ use Rattle.v_frame_raster.proofs.tables.Strides.{strided_row, visible_begin, vis
 use Rattle.v_frame_plane.specs.Visible.{with_visible_from, WritesEachRectangle}
 use Rattle.v_frame_plane.proofs.tables.VisibleWrites.{with_rest}
 
--- the pixel of rows of a stride is an entry
+-- A pixel of rows with a stride is an entry of the list.
 entry_of : {T : Type 0} (w h stride : ℕ) (xs : List T) (i j : ℕ) → w ≤ stride → i < w → j < h
     → pixel_at (strided_rows w h stride xs) i j ≡ slice_get xs (stride * j + i)
 entry_of w h stride xs i j apart across down =
@@ -66,7 +66,7 @@ module _ {T : Type 0} (p : Raster T) (x y w h stride : ℕ) (inside : IsInside p
   apart : w ≤ stride
   apart = omega (arith, stride_same, inside.across)
 
-  -- a pixel of the rectangle has its place in the plane
+  -- A pixel of the rectangle has an index in the plane.
   place_is : (i j : ℕ) → origin + (stride * j + i) ≡ place_of p.geometry (x + i) (y + j)
   place_is i j =
       let g = p.geometry in
@@ -76,13 +76,13 @@ module _ {T : Type 0} (p : Raster T) (x y w h stride : ℕ) (inside : IsInside p
       ap (λ n. origin_of g + (x + i + (y + j) * n)) stride_same in
       omega (arith, here, there) ∙ in_strides
 
-  -- so the rectangle begins at its first pixel
+  -- The rectangle therefore begins at its first pixel.
   pub region_origin : origin_of (region_geometry p.geometry x y w h) ≡ place_of p.geometry x y
   region_origin =
       let first = place_is 0 0 in
       omega (arith, first)
 
-  -- the pixels that were there
+  -- The pixels before the write.
   pub region_held : (i j : ℕ) → i < w → j < h
       → pixel_at (strided_rows w h stride (drop (origin_of (region_geometry p.geometry x y w h)) p.buffer)) i j
       ≡ pixel_at (table_of p) (x + i) (y + j)
@@ -107,7 +107,7 @@ module _ {T : Type 0} (p : Raster T) (x y w h stride : ℕ) (inside : IsInside p
       again : with_part p.buffer (place_of p.geometry x y) new ≡ written
       again = rw (← region_origin) (with_rest p.buffer new origin as_long rest.count)
 
-      -- a place that is none of the rectangle's
+      -- An index that does not belong to the rectangle.
       kept_at : (place : ℕ) → ((i j : ℕ) → i < w → j < h → place ≢ place_of p.geometry (x + i) (y + j))
           → slice_get written place ≡ slice_get p.buffer place
       kept_at place outside = elim (cases_lt place origin) [
@@ -123,7 +123,7 @@ module _ {T : Type 0} (p : Raster T) (x y w h stride : ℕ) (inside : IsInside p
             ∙ slice_get-drop origin p.buffer k ∙ ap (slice_get p.buffer) back_there
       ]
 
-      -- the pixels of the rectangle are those of the rows
+      -- The pixels of the rectangle are those of the rows.
       shown : (i j : ℕ) → i < w → j < h
           → pixel_at (table_of (raster p.geometry written)) (x + i) (y + j)
           ≡ pixel_at (strided_rows w h stride new) i j
@@ -135,7 +135,7 @@ module _ {T : Type 0} (p : Raster T) (x y w h stride : ℕ) (inside : IsInside p
           ∙ ap (slice_get written) there ∙ slice_get-back (take origin p.buffer) new (stride * j + i)
           ∙ sym (entry_of w h stride new i j apart across down)
 
-      -- and all others are as they were
+      -- All other pixels are unchanged.
       beside : (i j : ℕ) → ((i < x) ⊎ (x + w ≤ i)) ⊎ ((j < y) ⊎ (y + h ≤ j))
           → pixel_at (table_of (raster p.geometry written)) i j ≡ pixel_at (table_of p) i j
       beside i j outside =

@@ -1,5 +1,5 @@
--- The entries of a buffer from its first visible pixel on, written as rows of a stride: they are the table that is shown then,
--- and where the rows alone were written, the border is as it was.
+-- The entries of a buffer from its first visible pixel on are written as rows with a stride. These rows are then the
+-- table, and if only the rows were written, the border is unchanged.
 use Rattle.std.proofs.Common.{ℕ, ◌≡◌, List, ◌++◌, length, take, drop, slice_range, refl, sym, ◌∙◌, ap, arith}
 use Rattle.std.proofs.Common.{length-take-le, length-drop, length-append}
 use Rattle.std.proofs.lemmas.List.{append-nil, drop_all, drop_at, take_all}
@@ -13,11 +13,11 @@ use Rattle.v_frame_raster.proofs.tables.VisiblePart.{border_kept}
 use Rattle.v_frame_plane.specs.Visible.{with_visible, ShowsEachList, KeepsBorderOfEach}
 
 module _ {T : Type 0} where
-  -- all entries from a place on
+  -- All entries from an index on.
   pub rest_of : (xs : List T) (start size : ℕ) → length xs ≡ size → slice_range xs start size ≡ drop start xs
   rest_of xs start size whole = take_all _ (drop start xs) (omega (arith, length-drop start xs))
 
-  -- a part that is written up to the end
+  -- A part that is written up to the end.
   pub with_rest : (xs new : List T) (start : ℕ) → length (take start xs ++ new) ≡ length xs
       → length new ≡ length (drop start xs)
       → with_part xs start new ≡ take start xs ++ new

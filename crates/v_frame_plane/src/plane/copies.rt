@@ -1,6 +1,7 @@
 //! Copies into a plane, from pixels and from bytes.
 //!
-//! Pixels and bytes share the loop of `encoding`, and bytes without tails are bytes with the stride of a row.
+//! All copies share the loop of `encoding`. A copy of packed bytes is a copy with a stride, and its stride is the size of a
+//! row.
 ghost use Rattle.std.specs.Prelude.{◌≡◌, ◌*◌, ◌+◌, length, map, OnOk};
 ghost use Rattle.v_frame_raster.specs.Pixel.{byte_list};
 ghost use Rattle.v_frame_raster.specs.Table.{width_of, height_of, row_major};
@@ -15,13 +16,14 @@ use crate::rows_ref::RowsRef;
 use v_frame_raster::pixel::Pixel;
 
 impl<T: Pixel> Plane<T> {
-    /// Replaces the visible pixels by those of `src`, row after row. The border stays.
+    /// Replaces the visible pixels with those of `src`, which holds the rows from top to bottom without gaps. The border is
+    /// unchanged.
     ///
     /// Ports `Plane::copy_from_slice` of `v_frame` 0.7.0.
     ///
     /// # Errors
     ///
-    /// [`CopyError::DataLength`] where `src` has another length than `width * height` pixels. Then nothing is written.
+    /// [`CopyError::DataLength`] if the length of `src` is not `width * height` pixels. The plane is then unchanged.
     pub fn copy_from_slice(&mut self, src: &[T]) -> Result<(), CopyError>
         ensures copied { Copies self.old self.new result
             (packed_copy (table_of self.old) src.now) }
@@ -46,14 +48,15 @@ impl<T: Pixel> Plane<T> {
         Ok(())
     }
 
-    /// Replaces the visible pixels by those whose bytes are `src`, row after row, low byte first. The border stays.
+    /// Replaces the visible pixels with those encoded in `src`, which holds the rows from top to bottom without gaps. Each
+    /// pixel is encoded in little-endian order. The border is unchanged.
     ///
     /// Ports `Plane::copy_from_u8_slice` of `v_frame` 0.7.0.
     ///
     /// # Errors
     ///
-    /// [`CopyError::DataLength`] where `src` has another length than [`BYTES`](Pixel::BYTES) for each visible pixel. Then
-    /// nothing is written.
+    /// [`CopyError::DataLength`] if the length of `src` is not [`BYTES`](Pixel::BYTES) times the number of visible pixels. The
+    /// plane is then unchanged.
     pub fn copy_from_u8_slice(&mut self, src: &[u8]) -> Result<(), CopyError>
         ensures copied { Copies self.old self.new result
             (packed_byte_copy T.form (table_of self.old) src.now) }
@@ -63,16 +66,19 @@ impl<T: Pixel> Plane<T> {
         self.copy_from_u8_slice_with_stride(src, stride)
     }
 
-    /// Replaces the visible pixels by those of a source with a stride: the bytes of row `y` begin at index `stride * y`, low
-    /// byte first. The bytes between its end and the next row are not read. The border stays.
+    /// Replaces the visible pixels with those encoded in `src`, whose rows lie `stride` bytes apart: row `y` begins at index
+    /// `stride * y`. Each pixel is encoded in little-endian order. The bytes between the end of a row and the start of the next
+    /// row are not read. The border is unchanged.
     ///
-    /// The stride is in bytes. Ports `Plane::copy_from_u8_slice_with_stride` of `v_frame` 0.7.0.
+    /// Ports `Plane::copy_from_u8_slice_with_stride` of `v_frame` 0.7.0.
     ///
     /// # Errors
     ///
-    /// [`CopyError::InvalidStride`] where the stride holds no row; else [`CopyError::DataLength`] where `src` has another
-    /// length than a stride for each row, the last one too. Where no `usize` holds the expected length, the error has
-    /// `usize::MAX`. Then nothing is written.
+    /// - [`CopyError::InvalidStride`] if `stride` is less than the size of a visible row in bytes.
+    /// - Otherwise [`CopyError::DataLength`] if the length of `src` is not `stride * height` bytes. The last row needs a whole
+    ///   stride too. The error's `expected` is `usize::MAX` if `stride * height` does not fit into a `usize`.
+    ///
+    /// The plane is unchanged after an error.
     pub fn copy_from_u8_slice_with_stride(
         &mut self,
         src: &[u8],

@@ -1,4 +1,4 @@
-//! Planes that are filled entry by entry: each entry holds a value or none.
+//! Planes that are filled one entry at a time: each entry is either a value or `None`.
 ghost use Rattle.std.specs.Prelude.{◌≡◌, ◌↔◌, None, IsTrue, IfOk, IfErr};
 ghost use Rattle.v_frame_raster.specs.Geometry.{Fits};
 ghost use Rattle.v_frame_raster.specs.Raster.{IsFull, options_of, filled};
@@ -8,15 +8,16 @@ use std::alloc::{AllocError, Global};
 use v_frame_buffer::AlignedData;
 
 impl<T> Plane<T> {
-    /// Returns a plane whose entries are all `None`, to be filled through [`data_mut`](Self::data_mut).
+    /// Allocates a plane with layout `geometry` whose entries are all `None`. Fill it through [`data_mut`](Self::data_mut).
     ///
-    /// The [`checked_alloc_size`](PlaneGeometry::checked_alloc_size) of the geometry has to be `Some`.
+    /// The [`checked_alloc_size`](PlaneGeometry::checked_alloc_size) of `geometry` must be `Some`.
     ///
-    /// Ports `Plane::new_uninit` of `v_frame` 0.7.0, with options in place of entries that may not be read.
+    /// Ports `Plane::new_uninit` of `v_frame` 0.7.0, where it requires the feature `padding_api`. The entries are options
+    /// instead of uninitialized memory.
     ///
     /// # Errors
     ///
-    /// [`AllocError`] where the request for the buffer's memory was refused.
+    /// [`AllocError`] if the memory for the buffer cannot be allocated.
     pub fn new_uninit(
         alloc: Global,
         geometry: PlaneGeometry,
@@ -30,7 +31,8 @@ impl<T> Plane<T> {
 }
 
 impl<T> Plane<Option<T>> {
-    /// Returns whether every entry holds a value, in the border too. Our own.
+    /// Returns whether every entry is `Some`, including the entries of the border. Reads the whole buffer. Not part of
+    /// `v_frame` 0.7.0.
     pub fn is_init(&self) -> bool
         ensures { IsTrue result ↔ IsFull self.now }
     {
@@ -39,13 +41,15 @@ impl<T> Plane<Option<T>> {
 }
 
 impl<T: Drop> Plane<Option<T>> {
-    /// Returns the plane of the values. [`is_init`](Self::is_init) has to be true.
+    /// Converts the plane into a plane of its values. Every entry must be `Some`, that is, [`is_init`](Self::is_init) must
+    /// return `true`.
     ///
-    /// Ports `Plane::assume_init` of `v_frame` 0.7.0, which asks the same of its callers and takes no second buffer.
+    /// The values are moved into a newly allocated buffer. Ports `Plane::assume_init` of `v_frame` 0.7.0, where it requires the
+    /// feature `padding_api`. The original has the same precondition, but allocates no second buffer.
     ///
     /// # Errors
     ///
-    /// The plane of options as it was, each value where it was, where the request for the second buffer's memory was refused.
+    /// Returns the unchanged plane of options if the memory for the second buffer cannot be allocated.
     pub fn assume_init(self, alloc: Global) -> Result<Plane<T>, Self>
         requires { IsFull self }
         ensures values { IfOk result (λ plane. options_of plane ≡ self) }

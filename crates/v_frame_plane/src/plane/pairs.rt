@@ -1,4 +1,4 @@
-//! Two parts of a whole buffer for writing at once: a row and what lies after it, and two rows.
+//! Mutable access to two parts of a whole buffer at once: a row and the entries after it, or two rows.
 ghost use Rattle.std.specs.Prelude.{◌≡◌, ◌+◌, ◌<◌, ◌≤◌, Some, drop, length, slice_get, take};
 ghost use Rattle.std.specs.Borrow.{sem};
 ghost use Rattle.v_frame_raster.specs.Geometry.{place_of};
@@ -10,11 +10,12 @@ ghost use Rattle.v_frame_raster.specs.Writes.{WritesEachFront, WritesEachPair};
 use super::PlaneGeometry;
 use crate::place::row_start;
 
-/// Returns the visible pixels of row `y` for writing, and the entries of the buffer after them.
+/// Returns the visible pixels of row `y` for writing, and the entries of the buffer after this row.
 ///
-/// `buffer` is the whole buffer of a plane of this geometry, as for [`visible_rows_mut`]. Where the row alone is written, a
-/// caller's proof knows all that [`Plane::visible_row_mut`](super::Plane::visible_row_mut) promises. The rest is lent beside it
-/// since the toolchain follows no loan of one slice from a slice, but a loan of two. Our own.
+/// `buffer` must be the whole buffer of a plane with layout `geometry`, as for [`visible_rows_mut`]. The row number `y` must be
+/// less than the height of `geometry`. If only the row is written, the proof of a caller knows everything that
+/// [`Plane::visible_row_mut`](super::Plane::visible_row_mut) promises. This function returns the remaining entries as well,
+/// because the toolchain can follow two slices borrowed from a slice, but not one. Not part of `v_frame` 0.7.0.
 pub fn split_row_mut<T>(buffer: &mut [T], geometry: PlaneGeometry, y: usize) -> (&mut [T], &mut [T])
     requires whole { IsWhole geometry buffer.old }
     requires high { y < geometry.height }
@@ -31,10 +32,11 @@ pub fn split_row_mut<T>(buffer: &mut [T], geometry: PlaneGeometry, y: usize) -> 
     two_parts(buffer, place, width, end, behind)
 }
 
-/// Returns the visible pixels of rows `y` and `z` for writing, the first above the second.
+/// Returns the visible pixels of rows `y` and `z` for writing. Row `y` must lie above row `z`, that is, `y < z`.
 ///
-/// `buffer` is the whole buffer of a plane of this geometry: `visible_rows_mut(plane.data_mut(), geometry, y, z)`, where
-/// `geometry` was read before. A caller's automatic proof knows what is written through both rows. Our own.
+/// `buffer` must be the whole buffer of a plane with layout `geometry`, and `z` must be less than its height. To call this for
+/// a plane, read its geometry first: `visible_rows_mut(plane.data_mut(), geometry, y, z)`. The automatic proof of a caller
+/// knows which pixels are written through both rows. Not part of `v_frame` 0.7.0.
 pub fn visible_rows_mut<T>(
     buffer: &mut [T],
     geometry: PlaneGeometry,
@@ -57,7 +59,7 @@ pub fn visible_rows_mut<T>(
     two_parts(buffer, start, width, next, width)
 }
 
-/// Two parts of a slice: one of `width` entries from `start` on, and after it one of `other` entries from `next` on.
+/// Returns two parts of a slice: `width` entries starting at `start`, and after them `other` entries starting at `next`.
 fn two_parts<T>(
     entries: &mut [T],
     start: usize,

@@ -1,4 +1,4 @@
-//! Planes as values: clones, equality and debug texts.
+//! Planes as values: cloning, equality and debug output.
 ghost use Rattle.std.specs.Prelude.{◌≡◌, IfOk};
 
 use super::Plane;
@@ -7,13 +7,13 @@ use std::fmt;
 use v_frame_raster::geometry::PlaneGeometry;
 
 impl<T: Copy> Plane<T> {
-    /// The same plane in a buffer of its own.
+    /// Returns a copy of the plane in a newly allocated buffer, including the border.
     ///
     /// Ports `Plane::clone` of `v_frame` 0.7.0.
     ///
     /// # Errors
     ///
-    /// [`AllocError`] where the request for the buffer's memory was refused.
+    /// [`AllocError`] if the memory for the buffer cannot be allocated.
     pub fn clone(&self, alloc: Global) -> Result<Self, AllocError>
         ensures { IfOk result (λ copy. copy ≡ self.now) }
     {

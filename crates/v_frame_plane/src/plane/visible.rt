@@ -1,4 +1,4 @@
-//! The visible pixels of a plane for writing, as rows of its buffer: all of them, or a rectangle.
+//! Mutable access to the visible pixels of a plane as rows of its buffer: to all of them, or to a rectangle.
 ghost use Rattle.std.specs.Prelude.{◌≡◌, ◌+◌, ◌<◌, ℕ, length};
 ghost use Rattle.v_frame_raster.specs.Geometry.{IsInside};
 ghost use Rattle.v_frame_raster.specs.Raster.{table_of};
@@ -7,19 +7,20 @@ ghost use Rattle.v_frame_raster.specs.Table.{pixel_at};
 
 use super::Plane;
 
-/// Visible pixels of a plane for writing, as rows of its buffer: each begins a stride after the one before.
+/// Visible pixels of a plane for writing, as rows of its buffer. Row `y` begins at index `stride * y` of `entries`.
 ///
-/// The entries end with the buffer, so they have what lies between the rows and after the last, too: to keep it, write the rows
-/// alone. [`rows_fit`](super::rows_fit) is true of these numbers. Our own.
+/// The slice `entries` ends where the buffer ends. It therefore contains the entries between the rows and after the last row
+/// too; to keep them, write only the rows. For the values of these fields, [`rows_fit`](super::rows_fit) returns `true`. Not
+/// part of `v_frame` 0.7.0.
 #[derive(Drop)]
 pub struct VisibleMut<'a, T> {
-    /// The entries of the buffer from the first of these pixels on.
+    /// The entries of the buffer, starting at the first of these pixels.
     pub entries: &'a mut [T],
-    /// The pixels of a row.
+    /// The number of pixels in a row.
     pub width: usize,
-    /// How many rows there are.
+    /// The number of rows.
     pub height: usize,
-    /// How many entries lie between the beginnings of two rows.
+    /// The number of entries from the start of one row to the start of the next.
     pub stride: usize,
 }
 
@@ -28,9 +29,9 @@ impl<T> Plane<T> {
     ghost use Rattle.v_frame_plane.specs.Lends.{LendsVisible, LendsVisibleFrom};
     ghost use Rattle.v_frame_plane.specs.Visible.{ShowsEachList, KeepsBorderOfEach, WritesEachRectangle};
 
-    /// Returns the visible rows for writing, for calls that write rows of a buffer.
+    /// Returns all visible rows for writing. Pass the result to calls that write rows of a buffer.
     ///
-    /// A caller's automatic proof knows what is written through them. Our own.
+    /// The automatic proof of a caller knows which pixels are written through the rows. Not part of `v_frame` 0.7.0.
     pub fn visible_mut(&mut self) -> VisibleMut<'_, T>
         ensures* writes_back { sem 𝓛 (LendsVisible T.row self.entry result.entries) }
         ensures width { result.width ≡ self.old.geometry.width }
@@ -56,10 +57,12 @@ impl<T> Plane<T> {
         }
     }
 
-    /// Returns the rows of a rectangle for writing, which is not empty and inside the visible one: compare it with
-    /// [`width`](Self::width) and [`height`](Self::height).
+    /// Returns the rows of a rectangle of visible pixels for writing. The rectangle begins at column `x` of row `y`, and has
+    /// `width` by `height` pixels.
     ///
-    /// The rectangle begins at column `x` of row `y`. A caller's automatic proof knows what is written through it. Our own.
+    /// The rectangle must not be empty, and must lie inside the visible one: `x + width` may be at most [`width`](Self::width),
+    /// and `y + height` at most [`height`](Self::height). The automatic proof of a caller knows which pixels are written
+    /// through the rows. Not part of `v_frame` 0.7.0.
     pub fn visible_region_mut(
         &mut self,
         x: usize,

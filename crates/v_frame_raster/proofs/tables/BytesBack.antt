@@ -1,4 +1,4 @@
--- Bytes that were decoded come back: of one pixel, of a row, and of a table.
+-- Bytes that were decoded come back: for one pixel, for a row, and for a table.
 use Rattle.std.proofs.Common.{ℕ, zero, suc, ◌≡◌, ◌+◌, ◌*◌, ◌/◌, ◌%◌, ◌^◌, ◌<◌, ◌≤◌, List, [], ◌∷◌, length, take, drop}
 use Rattle.std.proofs.Common.{get_or, refl, sym, ◌∙◌, ap, arith, add-one, lit<, inl, inr, length-take, length-drop}
 use Rattle.std.proofs.Common.{length-take-le, take-append-drop}
@@ -11,11 +11,11 @@ use Rattle.v_frame_raster.specs.Pixel.{byte_list, pixels_of_bytes}
 use Rattle.v_frame_raster.specs.Table.{row_major}
 use Rattle.v_frame_raster.specs.StridedRows.{piece_fronts, strided_table}
 
--- every number of the list is a byte
+-- Every number of the list is a byte.
 pub record AreBytes (bytes : List ℕ) : Type 0 where
   pub below : (i : ℕ) → get_or bytes i 0 < 256
 
--- what every place of a list holds that has it
+-- A property of every index of a list.
 pub are_bytes : (bytes : List ℕ) → ((i d : ℕ) → i < length bytes → get_or bytes i d < 256) → AreBytes bytes
 are_bytes bytes h = record {
   below = λ i. elim (cases_lt i (length bytes)) [
@@ -35,7 +35,7 @@ front_are_bytes n bytes h = record {
 rest_are_bytes : (n : ℕ) (bytes : List ℕ) → AreBytes bytes → AreBytes (drop n bytes)
 rest_are_bytes n bytes h = record { below = λ i. rw (get_or-drop n bytes i 0) (h.below (n + i)) }
 
--- one place higher, a byte weighs 256 times as much
+-- One place higher, a byte has 256 times the weight.
 value_from-next : (i : ℕ) (bytes : List ℕ) → value_from (i + 1) bytes ≡ 256 * value_from i bytes
 value_from-next i [] = omega arith
 value_from-next i (byte ∷ bytes) =
@@ -51,7 +51,7 @@ bytes_from-next i (suc n) value =
     ∙ sym (div-div-eq-div-mul value 256 (256 ^ i)) in
     rw (high, bytes_from-next (i + 1) n value) refl
 
--- the value of bytes is counted in as many bytes, and these are its bytes
+-- The value of a list of bytes fits into this number of bytes, and has these bytes.
 pub value_of_bytes-fits : (bytes : List ℕ) → AreBytes bytes → value_of_bytes bytes < 256 ^ length bytes
 value_of_bytes-fits [] h = lit< tt
 value_of_bytes-fits (byte ∷ bytes) h =
@@ -78,7 +78,7 @@ bytes_of-value_of_bytes (byte ∷ bytes) h =
 
 module _ {T : Type 0} (form : PixelForm T)
     (back : (v : ℕ) → v < 256 ^ form.size → form.value (form.pixel_of v) ≡ v) where
-  -- the bytes of one pixel
+  -- The bytes of one pixel.
   pixel_comes_back : (group : List ℕ) → length group ≡ form.size → AreBytes group →
       bytes_of form.size (form.value (form.pixel_of (value_of_bytes group))) ≡ group
   pixel_comes_back group long h =
@@ -86,7 +86,7 @@ module _ {T : Type 0} (form : PixelForm T)
       ap (bytes_of form.size) (back (value_of_bytes group) fits)
       ∙ ap (λ n. bytes_of n (value_of_bytes group)) (sym long) ∙ bytes_of-value_of_bytes group h
 
-  -- the bytes of a row
+  -- The bytes of a row.
   row_comes_back : (count : ℕ) (bytes : List ℕ) → length bytes ≡ count * form.size → AreBytes bytes →
       bytes_of_pixels form (pixels_of_bytes form count bytes) ≡ bytes
   row_comes_back zero [] long h = refl
@@ -99,7 +99,7 @@ module _ {T : Type 0} (form : PixelForm T)
         row_comes_back count others (omega (arith, length-drop form.size bytes)) (rest_are_bytes form.size bytes h),
       ) (take-append-drop form.size bytes)
 
-  -- the bytes of a table: the fronts of the pieces, joined
+  -- The bytes of a table: the fronts of the pieces, joined.
   pub table_comes_back : (width height stride : ℕ) (source : List ℕ) → width * form.size ≤ stride
       → length source ≡ stride * height → AreBytes source
       → byte_list form (strided_table form width height stride source)

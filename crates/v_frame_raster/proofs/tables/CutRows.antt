@@ -1,5 +1,5 @@
--- Rows joined and cut. A list cut into rows: how many there are, where each begins, and that they are the list. Rows of one
--- width are what their joined pixels are cut into.
+-- Joined rows, and a list that is cut into rows: the number of rows, the index where each begins, and the fact that they
+-- make up the list. Rows of one width are recovered from their joined pixels.
 use Rattle.std.proofs.Common.{ℕ, zero, suc, ◌≡◌, ◌+◌, ◌*◌, ◌<◌, List, [], ◌∷◌, length, map, take, drop, All, Some}
 use Rattle.std.proofs.Common.{◌++◌, append_assoc, get_or, slice_get, refl, sym, ◌∙◌, ap, arith, take-append-drop, length-drop, suc-add}
 use Rattle.std.proofs.lemmas.List.{drop-drop, take_at, drop_at, length-map, nil_from_length}
@@ -16,7 +16,7 @@ module _ {T : Type 0} where
   length-cut_rows width zero source = refl
   length-cut_rows width (suc height) source = ap suc (length-cut_rows width height (drop width source))
 
-  -- the rows of a packed source are the source
+  -- The rows of a packed source make up the source.
   pub row_major-cut_rows : (width height : ℕ) (source : List T) → length source ≡ width * height
       → row_major (cut_rows width height source) ≡ source
   row_major-cut_rows width zero [] h = refl
@@ -25,7 +25,7 @@ module _ {T : Type 0} where
       rw (row_major-cut_rows width height (drop width source) (omega (arith, length-drop width source)))
       (take-append-drop width source)
 
-  -- piece y of a source is what it holds from `width * y` on
+  -- Piece y of a source begins at index `width * y`.
   pub slice_get-cut_rows : (width height : ℕ) (source : List T) (y : ℕ) → y < height →
       slice_get (cut_rows width height source) y ≡ Some (take width (drop (width * y) source))
   slice_get-cut_rows width zero source y h = absurd (omega arith)
@@ -39,7 +39,7 @@ module _ {T : Type 0} where
       ) refl
 
 module _ {T : Type 0} where
-  -- one piece more of a source is the one after those that there were
+  -- One more piece of a source is the one after the pieces so far.
   pub cut_rows-one_more : (width pieces : ℕ) (source : List T)
       → cut_rows width (pieces + 1) source
       ≡ cut_rows width pieces source ++ take width (drop (width * pieces) source) ∷ []
@@ -70,7 +70,7 @@ module _ {T : Type 0} (width : ℕ) where
   width_is (row ∷ rows) wide pixels =
       ap (λ w. cut_rows w (length (row ∷ rows)) pixels) (All-head (λ r. length r ≡ width) row rows wide)
 
-  -- so are rows that are as long as the rows of a table of one width
+  -- This also holds for rows with the lengths of the rows of a table of one width.
   pub cut_again : (table rows : Table T) → map length rows ≡ map length table → All (λ row. length row ≡ width) table
       → cut_rows (width_of table) (height_of table) (row_major rows) ≡ rows
   cut_again table rows same wide = width_is table wide (row_major rows) ∙ cut-row_major table rows same wide

@@ -1,4 +1,4 @@
--- A buffer is put together again from its visible pieces and its border pieces.
+-- A buffer is determined by its visible pieces and its border pieces.
 use Rattle.std.proofs.Common.{◌≡◌, List, [], ◌∷◌, ◌++◌, length, take, drop, refl, sym, ◌∙◌, arith}
 use Rattle.std.proofs.lemmas.List.{take_all}
 use Rattle.std.proofs.Math.Seq.{take-add}
@@ -9,7 +9,7 @@ use Rattle.v_frame_raster.specs.RasterLaws.{DeterminesBuffer}
 use Rattle.v_frame_raster.proofs.Plans.{total, total-cutting_plan}
 
 module _ {T : Type 0} where
-  -- one piece, and what the others add to the table and to the border
+  -- One piece, and the contributions of the others to the table and to the border.
   same_piece : (mark : Mark) (a b : List T) (shown_a shown_b border_a border_b : List (List T))
       → if_visible mark a ++ shown_a ≡ if_visible mark b ++ shown_b
       → if_border mark a ++ border_a ≡ if_border mark b ++ border_b

@@ -1,4 +1,4 @@
--- The pieces of a buffer hold what its places hold.
+-- The pieces of a buffer are determined by its entries.
 use Rattle.std.proofs.Common.{ℕ, zero, suc, ◌≡◌, ◌+◌, ◌<◌, List, [], ◌∷◌, take, drop, Some, None, slice_get, refl, sym}
 use Rattle.std.proofs.Common.{◌∙◌, ap, arith}
 use Rattle.v_frame_raster.specs.Geometry.{Mark, Border, Visible, Piece, cutting_plan, mark_at}
@@ -8,7 +8,7 @@ use Rattle.v_frame_raster.proofs.tables.Lists.{slice_get-drop}
 use Rattle.v_frame_raster.proofs.tables.Marks.{mark_at-here, mark_at-past}
 
 module _ {T : Type 0} where
-  -- lists that agree at the first n places begin with the same n elements
+  -- Lists that agree at the first n indices begin with the same n elements.
   pub same_front : (n : ℕ) (xs ys : List T) → ((i : ℕ) → i < n → slice_get xs i ≡ slice_get ys i) → take n xs ≡ take n
       ys
   same_front zero xs ys h = refl
@@ -20,7 +20,7 @@ module _ {T : Type 0} where
       let rest = same_front n xs ys (λ i below. h (suc i) (omega arith)) in
       cc
 
-  -- two lists agree wherever a plan puts a mark
+  -- Two lists agree at every index to which a plan gives this mark.
   abbrev Agree : Mark → List Piece → List T → List T → Type 0
   Agree mark plan xs ys = (place : ℕ) → mark_at plan place ≡ Some mark → slice_get xs place ≡ slice_get ys place
 

@@ -1,4 +1,4 @@
--- What `==` says of pixels, of buffers and of planes, where `==` on pixels says whether their values are one.
+-- The meaning of `==` for pixels, for buffers and for planes, if `==` on pixels compares their values.
 use Rattle.std.proofs.Common.{ℕ, ◌≡◌, Bool, List, ◌&&◌, nat_eq as eqb, Option, Some, None, refl, ap}
 use Rattle.v_frame_raster.specs.Geometry.{Geometry, stride_of}
 use Rattle.v_frame_raster.specs.Raster.{Raster, raster}
@@ -28,7 +28,7 @@ module _ {X : Type 0} {E : X → X → Bool} (decide : (x y : X) → Decides (E 
   options_decide (Some x) None = (λ e. cc, λ e. cc)
   options_decide (Some x) (Some y) = Decides-like (E x y) (λ e. ap (λ z. Some z) e) (λ e. cc) (decide x y)
 
--- number by number; the stride, which the sizes and the paddings give, is compared too
+-- All numbers are compared. The stride is compared too, although the sizes and the paddings determine it.
 abbrev pub same_numbers : Geometry → Geometry → Bool
 same_numbers g h =
     eqb g.width h.width && (eqb g.height h.height && (eqb (stride_of g) (stride_of h) &&

@@ -1,4 +1,4 @@
--- Lists read by index that were repeated, joined, reversed or paired, and tables read by pixels.
+-- Lists that are repeated, joined, reversed or paired, read by index, and tables read by pixels.
 use Rattle.std.proofs.Common.{ℕ, zero, suc, ◌≡◌, ◌+◌, ◌-◌, ◌<◌, ◌≤◌, All, List, [], ◌∷◌, ◌++◌, length, map, take, drop}
 use Rattle.std.proofs.Common.{replicate, reverse, slice_get, Some, None, refl, sym, ◌∙◌, ap, arith}
 use Rattle.std.proofs.lemmas.List.Elements.{All-head, All-tail}
@@ -25,7 +25,7 @@ module _ {X : Type 0} where
       let e : suc (length xs) + k ≡ suc (length xs + k) = omega arith in
       rw e (slice_get-append_right xs ys k)
 
-  -- the items of a list that is reversed, from the other end
+  -- The items of a reversed list, counted from the other end.
   pub slice_get-reverse : (xs : List X) (k : ℕ) → k < length xs
       → slice_get (reverse xs) k ≡ slice_get xs (length xs - 1 - k)
   slice_get-reverse [] k h = absurd (omega arith)
@@ -34,21 +34,21 @@ module _ {X : Type 0} where
       ∙ ap Some (get_or-reverse (x ∷ xs) k x h)
       ∙ sym (slice_get-get_or (x ∷ xs) (length (x ∷ xs) - 1 - k) x (omega arith))
 
-  -- so a list that has this is the reversed one
+  -- A list with these items is therefore the reversed list.
   pub is_reverse : (xs ys : List X) → length ys ≡ length xs
       → ((k : ℕ) → k < length ys → slice_get ys k ≡ slice_get xs (length xs - 1 - k)) → ys ≡ reverse xs
   is_reverse xs ys same each =
       same_by_slice_get ys (reverse xs) (same ∙ sym (length-reverse xs))
       (λ k h. each k h ∙ sym (slice_get-reverse xs k (omega arith)))
 
-  -- and an item that is as far from the end of a list is one of the reversed list
+  -- An item at some distance from the end of a list is an item of the reversed list.
   pub reversed_item : (xs : List X) (n k : ℕ) (x : X) → length xs ≡ n → k < n → slice_get xs (n - 1 - k) ≡ Some x
       → slice_get (reverse xs) k ≡ Some x
   reversed_item xs n k x count h is =
       let at : n - 1 - k ≡ length xs - 1 - k = omega arith in
       slice_get-reverse xs k (omega arith) ∙ ap (slice_get xs) (sym at) ∙ is
 
-  -- where the first items of one list are followed by the rest of another, the next one is of the other
+  -- If the first items of one list are followed by the rest of another list, the next item is from the other list.
   pub slice_get-seam : (new old : List X) (i : ℕ) → i ≤ length new → i < length old
       → slice_get (take i new ++ drop i old) i ≡ slice_get old i
   slice_get-seam new [] i h k = absurd (omega arith)
@@ -56,14 +56,14 @@ module _ {X : Type 0} where
   slice_get-seam [] (o ∷ old) (suc i) h k = absurd (omega arith)
   slice_get-seam (n ∷ new) (o ∷ old) (suc i) h k = slice_get-seam new old i (omega arith) (omega arith)
 
--- a function at each item of a reversed list
+-- A function that is applied to each item of a reversed list.
 pub map-reverse : {X Y : Type 0} (f : X → Y) (xs : List X) → map f (reverse xs) ≡ reverse (map f xs)
 map-reverse f [] = refl
 map-reverse f (x ∷ xs) =
     ap (map f) (reverse-append (x ∷ []) xs) ∙ map-append f (reverse xs) (x ∷ [])
     ∙ ap (λ ys. ys ++ (f x ∷ [])) (map-reverse f xs) ∙ sym (reverse-append (f x ∷ []) (map f xs))
 
--- the pairs of two lists, one by one
+-- The pairs of two lists, by index.
 pub slice_get-zip : {X Y : Type 0} (xs : List X) (ys : List Y) (k : ℕ) (x : X) (y : Y) → slice_get xs k ≡ Some x
     → slice_get ys k ≡ Some y → slice_get (zip xs ys) k ≡ Some (x, y)
 slice_get-zip (x ∷ xs) (y ∷ ys) zero a b is is1 = cc
@@ -71,7 +71,7 @@ slice_get-zip (x ∷ xs) (y ∷ ys) (suc k) a b is is1 = slice_get-zip xs ys k a
 slice_get-zip [] ys k a b is is1 = absurd (let no : None ≡ Some a = is in cc)
 slice_get-zip (x ∷ xs) [] k a b is is1 = absurd (let no : None ≡ Some b = is1 in cc)
 
--- tables of one size that agree pixel by pixel are equal
+-- Tables of the same size that agree pixel by pixel are equal.
 module _ {T : Type 0} where
   pub same_by_pixel_at : (width : ℕ) (table other : Table T) → length table ≡ length other → All
       (λ row. length row ≡ width) table →

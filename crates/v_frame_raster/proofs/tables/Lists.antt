@@ -1,4 +1,4 @@
--- Facts about lists alone, and of lists of lists as tables are.
+-- Facts about lists, and about lists of lists such as tables.
 use Rattle.std.proofs.Common.{ℕ, zero, suc, ◌≡◌, ◌≢◌, ◌+◌, ◌<◌, ◌≤◌, List, [], ◌∷◌, ◌++◌, length, take, drop, map, Some}
 use Rattle.std.proofs.Common.{slice_get, slice_set, refl, sym, ◌∙◌, ap, arith, take-append-drop, length-set}
 use Rattle.std.proofs.Math.Seq.{set-append_seam, get_or-set_same, take-set-le, drop-set-add, take-set-lt, drop-set-lt}
@@ -7,7 +7,7 @@ use Rattle.std.proofs.lemmas.Option.{slice_get-map as get-map, slice_get_read, s
 use Rattle.std.specs.List.{refill}
 
 module _ {X : Type 0} where
-  -- lists that agree at each place are equal, tables row by row among them
+  -- Lists that agree at each index are equal, for example tables that agree row by row.
   pub same_by_slice_get : (xs ys : List X) → length xs ≡ length ys
       → ((k : ℕ) → k < length xs → slice_get xs k ≡ slice_get ys k) → xs ≡ ys
   same_by_slice_get [] [] same each = refl
@@ -30,7 +30,7 @@ module _ {X : Type 0} where
       let e : suc n + i ≡ suc (n + i) = omega arith in
       slice_get-drop n xs i ∙ ap (slice_get (x ∷ xs)) (sym e)
 
-  -- the element after a list's front
+  -- The element after the front of a list.
   pub slice_get-at : (a : List X) (b : X) (c : List X) → slice_get (a ++ b ∷ c) (length a) ≡ Some b
   slice_get-at [] b c = refl
   slice_get-at (x ∷ a) b c = slice_get-at a b c
@@ -38,7 +38,7 @@ module _ {X : Type 0} where
   pub slice_set-at : (a : List X) (b : X) (c : List X) (d : X) → slice_set (a ++ b ∷ c) (length a) d ≡ a ++ d ∷ c
   slice_set-at = set-append_seam
 
-  -- an element that is set is read at its place, and all others are as before
+  -- Reading an element that was set returns the new element, and all others are unchanged.
   pub set_is_read : (xs : List X) (i : ℕ) (x : X) → i < length xs → slice_get (slice_set xs i x) i ≡ Some x
   set_is_read xs i x h =
       slice_get_read (slice_set xs i x) _ i x refl (omega (arith, h, length-set xs i x))
@@ -55,7 +55,7 @@ module _ {X : Type 0} where
   others_are_read (y ∷ xs) (suc i) zero x h = refl
   others_are_read (y ∷ xs) (suc i) (suc k) x h = others_are_read xs i k x (λ e. h (ap suc e))
 
-  -- the first elements of one list and the rest of another, one element on
+  -- The first elements of one list followed by the rest of another, with one more element of the first.
   pub one_more : (new old : List X) (i : ℕ) (x : X) → slice_get new i ≡ Some x → i < length old
       → slice_set (take i new ++ drop i old) i x ≡ take (i + 1) new ++ drop (i + 1) old
   one_more [] old i x e h = cc
@@ -65,11 +65,11 @@ module _ {X : Type 0} where
       let k : suc i + 1 ≡ suc (i + 1) = omega arith in
       rw k (ap (λ r. n ∷ r) (one_more new old i x e (omega arith)))
 
-  -- what is lent at its own length comes back as it was left
+  -- A list that is lent with its own length comes back with its final value.
   pub refill_same : (xs ws : List X) → length ws ≡ length xs → refill (length xs) xs ws ≡ ws
   refill_same xs ws h = take_at ws (drop (length ws) xs) (length xs) h
 
-  -- an element that is set inside a part of a list is set in that part
+  -- Setting an element inside a part of a list sets it in this part.
   pub set_in_part : (xs : List X) (start n i : ℕ) (x : X) → i < n → start + n ≤ length xs
       → slice_set xs (start + i) x ≡ take start xs ++ (slice_set (take n (drop start xs)) i x ++ drop n (drop start xs))
   set_in_part xs start n i x h inside =
@@ -84,6 +84,6 @@ pub slice_get-map : {X Y : Type 0} (f : X → Y) (xs : List X) (i : ℕ) (x : X)
     → slice_get (map f xs) i ≡ Some (f x)
 slice_get-map f xs i x e = rw (get-map, e) refl
 
--- lists of as many elements each are as many
+-- Lists of lists with equal lengths have equal numbers of lists.
 pub same_count : {X : Type 0} (xs ys : List (List X)) → map length xs ≡ map length ys → length xs ≡ length ys
 same_count xs ys e = sym (length-map xs length) ∙ ap length e ∙ length-map ys length

@@ -1,4 +1,4 @@
--- The mark of each place of a buffer.
+-- The mark of each index of a buffer.
 use Rattle.std.proofs.Common.{ℕ, zero, suc, ◌≡◌, ◌+◌, ◌-◌, ◌*◌, ◌<◌, ◌≤◌, List, [], ◌∷◌, ◌++◌, Some, None, false, ltb}
 use Rattle.std.proofs.Common.{refl, sym, ◌∙◌, ap, arith, append_assoc, append-nil, inl, inr}
 use Rattle.std.proofs.lemmas.Bool.{lt-ltb, cases_lt}
@@ -8,7 +8,7 @@ use Rattle.v_frame_raster.specs.Geometry.{visible_piece, times, outer_row, cross
 use Rattle.v_frame_raster.specs.RasterLaws.{HasMarks}
 use Rattle.v_frame_raster.proofs.Plans.{total, total-times, total-cutting_plan}
 
--- the first piece has its own entries, and past them the marks are those of the other pieces
+-- The first piece has its own entries, and the marks after them are those of the other pieces.
 pub mark_at-here : (piece : Piece) (q : List Piece) (n : ℕ) → n < piece.entries
     → mark_at (piece ∷ q) n ≡ Some piece.mark
 mark_at-here piece q n h = rw (lt-ltb n piece.entries h) refl
@@ -19,7 +19,7 @@ mark_at-past piece q n =
     let rest : piece.entries + n - piece.entries ≡ n = omega arith in
     rw (past, rest) refl
 
--- a plan's own places have its marks, whatever pieces follow
+-- The indices of a plan have its marks, whatever pieces follow.
 mark_at-front : (p q : List Piece) (n : ℕ) → n < total p → mark_at (p ++ q) n ≡ mark_at p n
 mark_at-front [] q n h = absurd (omega arith)
 mark_at-front (piece ∷ p) q n h = elim (cases_lt n piece.entries) [
@@ -30,14 +30,14 @@ mark_at-front (piece ∷ p) q n h = elim (cases_lt n piece.entries) [
       rw (e, mark_at-past piece (p ++ q) rest, mark_at-past piece p rest) (mark_at-front p q rest (omega arith))
 ]
 
--- past the pieces of a plan the marks are those of the next one
+-- After the pieces of a plan, the marks are those of the next plan.
 pub mark_at-append : (p q : List Piece) (n : ℕ) → mark_at (p ++ q) (total p + n) ≡ mark_at q n
 mark_at-append [] q n = ap (mark_at q) (omega arith)
 mark_at-append (piece ∷ p) q n =
     let e : piece.entries + total p + n ≡ piece.entries + (total p + n) = omega arith in
     rw (e, mark_at-past piece (p ++ q) (total p + n)) (mark_at-append p q n)
 
--- past the pieces there is no mark
+-- After all pieces, there is no mark.
 mark_past : (p : List Piece) (n : ℕ) → total p ≤ n → mark_at p n ≡ None
 mark_past [] n h = refl
 mark_past (piece ∷ p) n h =
@@ -45,7 +45,7 @@ mark_past (piece ∷ p) n h =
     let e : n ≡ piece.entries + rest = omega arith in
     rw (e, mark_at-past piece p rest) (mark_past p rest (omega arith))
 
--- the pieces n times over have the marks of each of them, and past them those of what follows
+-- Pieces that are repeated n times have their marks each time. The marks of the following pieces come after them.
 past_times : (n : ℕ) (pieces rest : List Piece) (width place : ℕ) → total pieces ≡ width →
     mark_at (times n pieces ++ rest) (n * width + place) ≡ mark_at rest place
 past_times n pieces rest width place w =
@@ -70,7 +70,7 @@ at_turn (suc n) (suc i) pieces rest width place w h inside =
     (at_turn n i pieces rest width place w (omega arith) inside)
 
 module _ (g : Geometry) where
-  -- a place of a row above, of one that crosses the rectangle, and of one below
+  -- An index in a row above the visible rectangle, in a row that crosses it, and in a row below it.
   mark_above : (row column : ℕ) → row < g.pad_top → column < stride_of g
       → mark_at (cutting_plan g) (row * stride_of g + column) ≡ Some Border
   mark_above row column high wide =

@@ -1,4 +1,4 @@
--- Rows overwritten entry by entry, and tables that are written outside of what they have.
+-- Rows that are overwritten entry by entry, and writes outside of a table.
 use Rattle.std.proofs.Common.{ℕ, zero, suc, ◌≡◌, ◌+◌, ◌<◌, ◌≤◌, min, List, [], ◌∷◌, length, take, Option, Some, None}
 use Rattle.std.proofs.Common.{All, inl, inr, unwrap_or, get_or, slice_get, slice_set, refl, ap, arith, add-one}
 use Rattle.std.proofs.lemmas.List.{set_past, set-get_or}
@@ -11,7 +11,7 @@ module _ {X : Type 0} where
   overwritten_by_none [] = refl
   overwritten_by_none (x ∷ row) = refl
 
-  -- gaps leave the pixels
+  -- Gaps keep the pixels.
   pub overwritten_by_gaps : (row : List X) (writes : List (Option X)) → All (λ write. write ≡ None) writes
       → overwritten_row row writes ≡ row
   overwritten_by_gaps [] writes none = refl
@@ -20,7 +20,7 @@ module _ {X : Type 0} where
       let rest = overwritten_by_gaps row writes (All-tail (λ write. write ≡ None) write writes none) in
       rw (All-head (λ write. write ≡ None) write writes none, rest) refl
 
-  -- a row stays as long
+  -- A row keeps its length.
   pub length-overwritten_row : (row : List X) (writes : List (Option X))
       → length (overwritten_row row writes) ≡ length row
   length-overwritten_row [] writes = refl
@@ -39,14 +39,14 @@ module _ {X : Type 0} where
   written_next (y ∷ row) (first ∷ writes) (suc i) write x h e here =
       ap (λ r. unwrap_or first y ∷ r) (written_next row writes i write x (omega arith) e here)
 
-  -- one more entry of the list, over what is there
+  -- One more entry of the list is written.
   pub written_more : (row : List X) (writes : List (Option X)) (i : ℕ) (write : Option X) (x : X) → i < length row
       → slice_get writes i ≡ Some write
       → let so_far = overwritten_row row (take i writes) in x ≡ get_or so_far i x →
       overwritten_row row (take (i + 1) writes) ≡ slice_set so_far i (unwrap_or write x)
   written_more row writes i write x h e here = rw add-one (written_next row writes i write x h e here)
 
-  -- what is past the row, or past the list, writes nothing
+  -- Entries past the end of the row or of the list write nothing.
   pub written_all : (row : List X) (writes : List (Option X)) (n : ℕ) → min (length row) (length writes) ≤ n →
       overwritten_row row (take n writes) ≡ overwritten_row row writes
   written_all [] writes n h = refl
@@ -56,7 +56,7 @@ module _ {X : Type 0} where
   written_all (y ∷ row) (write ∷ writes) (suc n) h =
       ap (λ r. unwrap_or write y ∷ r) (written_all row writes n (omega arith))
 
-  -- a pixel beside the rows, or below them, is written nowhere
+  -- A pixel beside the rows or below them is not written.
   pub with_pixel_beside : (rows : Table X) (width x y : ℕ) (pixel : X) → All (λ row. length row ≡ width) rows
       → width ≤ x → with_pixel rows x y pixel ≡ rows
   with_pixel_beside rows width x y pixel wide h =

@@ -1,4 +1,4 @@
--- Each visible pixel has a place of its own, in a visible piece.
+-- Each visible pixel has its own index, which lies in a visible piece.
 use Rattle.std.proofs.Common.{ℕ, ◌≡◌, ◌+◌, ◌*◌, ◌<◌, ◌≤◌, inl, inr, sym, ap, arith}
 use Rattle.std.proofs.lemmas.Bool.{cases_lt}
 use Rattle.std.proofs.Math.Nat.{mul-le-mul_right}
@@ -8,7 +8,7 @@ use Rattle.v_frame_raster.proofs.Plans.{row_start, place_of_row}
 use Rattle.v_frame_raster.proofs.tables.Marks.{has_marks}
 use Rattle.v_frame_raster.proofs.tables.Places.{place_within}
 
--- two rows that are apart have no entry in common
+-- Two different rows have no entry in common.
 rows_apart : (g : Geometry) (x y x' y' : ℕ) → x < g.width → y < y' → row_start g y + x ≡ row_start g y' + x' → ⊥
 unfolding row_start
 rows_apart g x y x' y' hx below e =
@@ -39,7 +39,7 @@ has_places g = record {
       same_place g x y x' y' hx hx' (omega (arith, place_of_row g y high, place_of_row g y' high));
 }
 
--- the upper row ends where the lower one begins, or before
+-- The upper row ends at or before the start of the lower row.
 pub row_ends_above : (g : Geometry) (y z start next width : ℕ) → y < z → start ≡ place_of g 0 y → next ≡ place_of g 0 z
     → width ≡ g.width → start + width ≤ next
 row_ends_above g y z start next width order first second wide =

@@ -1,4 +1,4 @@
--- Rows with nothing between them are the list that they are cut from, and the bytes of rows are joined to those of their
+-- Rows without gaps make up the list that they are cut from, and the bytes of the rows, joined, are those of the
 -- table.
 use Rattle.std.proofs.Common.{ℕ, zero, suc, ◌≡◌, ◌-◌, ◌*◌, ◌<◌, List, [], ◌∷◌, length, map, drop, refl, arith, mul-suc}
 use Rattle.std.proofs.lemmas.Grind.{flat_map-append}
@@ -25,7 +25,7 @@ module _ {T : Type 0} where
       let one : T → List ℕ = λ pixel. bytes_of form.size (form.value pixel) in
       rw (joined_bytes form rows, flat_map-append one row (row_major rows)) refl
 
--- and so many entries are what they fit
+-- This number of entries is exactly enough for them.
 pub packed_fit : (width height : ℕ) → 0 < width → 0 < height → RowsFit width height width (width * height)
 packed_fit width zero wide high = absurd (omega (arith, high))
 packed_fit width (suc others) wide high =

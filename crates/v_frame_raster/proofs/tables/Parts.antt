@@ -1,4 +1,4 @@
--- A list with other items in a part of it.
+-- A list of which a part is replaced.
 use Rattle.std.proofs.Common.{ℕ, zero, suc, ◌≡◌, ◌+◌, ◌-◌, ◌<◌, ◌≤◌, List, [], ◌∷◌, ◌++◌, length, take, drop, replicate}
 use Rattle.std.proofs.Common.{Some, slice_get, refl, ap, ◌∙◌, arith, length-take-le}
 use Rattle.v_frame_raster.proofs.tables.Lists.{slice_get-take, slice_get-drop}
@@ -20,7 +20,7 @@ module _ {X : Type 0} where
   slice_get-back (x ∷ xs) ys i =
       let e : suc (length xs) + i ≡ suc (length xs + i) = omega arith in rw e (slice_get-back xs ys i)
 
-  -- ys in the place of as many items, from a up to e
+  -- The list with the items from a up to e replaced by as many items ys.
   module _ (xs ys : List X) (a e : ℕ) (order : a ≤ e) (fits : e ≤ length xs)
       (as_many : length ys ≡ length (take (e - a) (drop a xs))) where
     long : length ys ≡ e - a

@@ -1,5 +1,5 @@
--- The bridge between a buffer and its picture: what reading where the plan puts a row gives, and what writing there
--- leaves.
+-- The relation between a buffer and its picture: the results of reads, and the effects of writes, at the index where
+-- the plan puts a row.
 use Rattle.std.proofs.Common.{ℕ, zero, suc, ◌≡◌, ◌+◌, ◌<◌, ◌≤◌, List, [], ◌∷◌, ◌++◌, length, take, drop, Some}
 use Rattle.std.proofs.Common.{slice_get, slice_set, refl, sym, ◌∙◌, ap, arith, append_assoc, length-append, length-drop}
 use Rattle.std.proofs.Common.{length-take, length-take-le, take-append-drop}
@@ -24,7 +24,7 @@ module _ {T : Type 0} where
   border_pieces-append [] b = refl
   border_pieces-append (piece ∷ a) b = simp (border_pieces-append a b, append_assoc)
 
-  -- a cut reads no further than its pieces reach
+  -- Cutting a buffer reads only the entries that its pieces cover.
   cut_by-front : (p : List Piece) (xs ys : List T) → total p ≤ length xs → cut_by p (xs ++ ys) ≡ cut_by p xs
   cut_by-front [] xs ys h = refl
   cut_by-front (piece ∷ p) xs ys h =
@@ -50,7 +50,7 @@ module _ {T : Type 0} where
   rows_before g y xs =
       simp (cut_by-append, visible_pieces-append, no_row_outside, rows_crossed, length-append) (omega arith)
 
-  -- the picture round the y-th visible piece
+  -- The picture before and after the y-th visible piece.
   picture_at_row : (g : Geometry) (xs : List T) (y : ℕ) → y < g.height
       → cut_by (cutting_plan g) xs ≡ cut_by (before_row g y) xs ++ (Visible, take g.width (drop (row_start g y) xs)) ∷
       cut_by (after_row g y) (drop (row_start g y + g.width) xs)
@@ -63,7 +63,7 @@ module _ {T : Type 0} where
         drop-drop g.width (row_start g y) xs,
       ) refl
 
-  -- the table round it
+  -- The table before and after this row.
   shown_at_row : (g : Geometry) (xs : List T) (y : ℕ) → y < g.height
       → visible_pieces (cut_by (cutting_plan g) xs)
       ≡ visible_pieces (cut_by (before_row g y) xs) ++ take g.width (drop (row_start g y) xs)
@@ -71,7 +71,7 @@ module _ {T : Type 0} where
   shown_at_row g xs y h =
       ap visible_pieces (picture_at_row g xs y h) ∙ visible_pieces-append (cut_by (before_row g y) xs) _
 
-  -- what is shown at y is what is in the buffer from the start of the row on
+  -- Row y of the table is the part of the buffer that begins at the start of the row.
   pub shown_row : (p : Raster T) (y : ℕ) → y < p.geometry.height → slice_get (table_of p) y ≡
       Some (take p.geometry.width (drop (row_start p.geometry y) p.buffer))
   shown_row p y h =
@@ -85,7 +85,7 @@ module _ {T : Type 0} where
   length-shown p =
       simp (cut_by-append, visible_pieces-append, no_row_outside, rows_crossed, length-append) (omega arith)
 
-  -- the entries xs with row written over those from the place a on
+  -- The entries xs, with those from index a on overwritten by the row.
   abbrev pub overwritten : List T → ℕ → List T → List T
   overwritten xs a row = take a xs ++ (row ++ drop (length row) (drop a xs))
 
@@ -116,7 +116,7 @@ module _ {T : Type 0} where
       let written = cut_by-front (before_row g y) (take a xs) behind enough in
       rw (picture_at_row g (overwritten xs a row) y h, rest, from, take_at row _ g.width same, written, front) refl
 
-  -- a row that is written where the y-th begins replaces the y-th of the table, and leaves the border
+  -- Writing a row where the y-th row begins replaces row y of the table, and keeps the border.
   pub shown_overwritten : (g : Geometry) (xs row : List T) (y : ℕ) → y < g.height → length row ≡ g.width
       → row_start g y + g.width ≤ length xs
       → visible_pieces (cut_by (cutting_plan g) (overwritten xs (row_start g y) row))

@@ -1,4 +1,4 @@
--- Rectangles of a table: what a plane shows of a buffer of which another shows more.
+-- Rectangles of a table: two planes over the same buffer, of which one shows a part of the other.
 use Rattle.std.proofs.Common.{ℕ, ◌≡◌, ◌+◌, ◌<◌, ◌≤◌, List, length, map, take, drop, Some, slice_get, refl, sym, ◌∙◌}
 use Rattle.std.proofs.Common.{arith, length-take-le, length-drop}
 use Rattle.std.specs.Prelude.{ℤ, unsigned_abs}
@@ -12,7 +12,8 @@ use Rattle.v_frame_raster.specs.RasterLaws.{ShowsRectangle}
 use Rattle.v_frame_raster.specs.Raster.{Raster, raster, table_of, whole_rows}
 use Rattle.v_frame_raster.proofs.tables.Pictures.{shown_row, length-shown}
 
--- one geometry shows a rectangle, from column x of row y on, of what another shows of the same buffer
+-- The first geometry shows a rectangle, from column x of row y on, of the table that the second shows of the same
+-- buffer.
 record ShowsPart (part g : Geometry) (x y : ℕ) : Type 0 where
   stride : stride_of part ≡ stride_of g
   left : part.pad_left ≡ g.pad_left + x
@@ -20,14 +21,14 @@ record ShowsPart (part g : Geometry) (x y : ℕ) : Type 0 where
   across : x + part.width ≤ g.width
   down : y + part.height ≤ g.height
 
--- where its rows begin
+-- The indices at which its rows begin.
 row_start-part : (part g : Geometry) (x y k : ℕ) → ShowsPart part g x y → row_start part k ≡ row_start g (y + k) + x
 unfolding row_start
 row_start-part part g x y k is =
     rw (is.stride, is.left, is.top) (omega arith)
 
 module _ {T : Type 0} where
-  -- a part of a part
+  -- A part of a part.
   pub taken_inside : (xs : List T) (x n m : ℕ) → x + n ≤ m → take n (drop x (take m xs)) ≡ take n (drop x xs)
   taken_inside xs x n m h = rw (← drop-take x n (take m xs), take-take (x + n) m xs h) (drop-take x n xs)
 
@@ -58,7 +59,7 @@ module _ {T : Type 0} where
         drop-drop x from buffer,
       ) refl)
 
-  -- a region shows the rectangle
+  -- A region shows the rectangle.
   pub region_shows : (p : Raster T) (x y width height : ℕ) → IsInside p.geometry x y width height
       → table_of (raster (region_geometry p.geometry x y width height) p.buffer)
       ≡ rectangle x y width height (table_of p)
@@ -72,14 +73,14 @@ module _ {T : Type 0} where
         down = inside.down;
       })
 
-  -- and so does each plane, of its whole buffer
+  -- Each plane shows a rectangle of its whole buffer.
   pub shows_rectangle : (p : Raster T) → ShowsRectangle p
   shows_rectangle p =
       let g = p.geometry in
       shows_part g (whole_geometry g) g.pad_left g.pad_top p.buffer
       (record { stride = omega arith; left = omega arith; top = omega arith; across = omega arith; down = omega arith })
 
-  -- a region that reaches into the border shows its rectangle of all rows of the buffer
+  -- A region that extends into the border shows its rectangle of all rows of the buffer.
   pub buffer_region_shows : (p : Raster T) (x y : ℤ) (width height : ℕ) → IsInBuffer p.geometry x y width height
       → table_of (raster (buffer_region p.geometry x y width height) p.buffer)
       ≡ rectangle (unsigned_abs (buffer_column p.geometry x)) (unsigned_abs (buffer_row p.geometry y)) width height

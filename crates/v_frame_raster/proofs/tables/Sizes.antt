@@ -14,7 +14,7 @@ module _ {T : Type 0} where
   width_of_first [] row e = cc
   width_of_first (first ∷ rows) row e = let same : first ≡ row = cc in ap length same
 
-  -- the sizes of a table are those of its plane
+  -- The sizes of a table are those of its plane.
   pub width_of_shown : (p : Raster T) → 0 < p.geometry.height → length p.buffer ≡ alloc_size_of p.geometry
       → width_of (table_of p) ≡ p.geometry.width
   width_of_shown p h whole =
@@ -28,7 +28,7 @@ module _ {T : Type 0} where
   pub height_of_shown : (p : Raster T) → height_of (table_of p) ≡ p.geometry.height
   height_of_shown p = length-shown p
 
-  -- a table has no more pixels than the buffer of its plane has entries
+  -- A table has at most as many pixels as the buffer of its plane has entries.
   pub pixels_within : (p : Raster T) → width_of (table_of p) * height_of (table_of p) ≤ alloc_size_of p.geometry
   pixels_within p =
       let g = p.geometry in

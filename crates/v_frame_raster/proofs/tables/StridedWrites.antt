@@ -1,4 +1,4 @@
--- A row written among rows of a stride replaces that row of their table, and all else is as it was.
+-- A row that is written among rows with a stride replaces this row of their table, and everything else is unchanged.
 use Rattle.std.proofs.Common.{ℕ, ◌≡◌, ◌≢◌, ◌+◌, ◌-◌, ◌*◌, ◌<◌, ◌≤◌, List, ◌++◌, length, take, drop, Some, slice_get}
 use Rattle.std.proofs.Common.{slice_set, inl, inr, refl, sym, ◌∙◌, ap, arith, length-take-le, length-drop}
 use Rattle.std.proofs.Common.{length-append, append-nil}
@@ -14,14 +14,14 @@ use Rattle.v_frame_raster.proofs.tables.Parts.{part_before, part_behind}
 use Rattle.v_frame_raster.proofs.tables.Strides.{height_of_rows, strided_row}
 use borrow.Rule.Slice.PartMut.{put_mid}
 
--- a row ends within the list
+-- A row ends within the list.
 pub row_ends : (width height stride entries y : ℕ) → RowsFit width height stride entries → y < height → stride * y +
     width ≤ entries
 row_ends width height stride entries y fit high =
     let low : y ≤ height - 1 = omega arith in
     omega (arith, mul-le-mul_right stride low, fit.within)
 
--- and in front of the rows below it
+-- A row ends before the rows below it.
 rows_apart : (width stride y k : ℕ) → width ≤ stride → y < k → stride * y + width ≤ stride * k
 rows_apart width stride y k apart below =
     let low : y + 1 ≤ k = omega arith in
@@ -56,7 +56,7 @@ module _ {T : Type 0} (width height stride : ℕ) (xs row : List T) (y : ℕ)
   behind : (i : ℕ) → start + width ≤ i → slice_get put i ≡ slice_get xs i
   behind i h = rw cut at (part_behind xs row start (start + width) (omega arith) ends as_many i h)
 
-  -- all but the row is as it was
+  -- Everything except the row is unchanged.
   pub rest_put : KeepsRest width height stride xs put
   rest_put = record {
     count = length-row_put;
@@ -81,7 +81,7 @@ module _ {T : Type 0} (width height stride : ℕ) (xs row : List T) (y : ℕ)
         | inr not_above ↦ behind (stride * k + i) (omega (arith, rows_apart width stride y k fit.apart (omega arith)))
       ] ∙ sym (slice_get-drop (stride * k) xs i))
 
-  -- the row replaces the one that was there
+  -- The new row replaces the old one.
   pub row_put : strided_rows width height stride put ≡ slice_set (strided_rows width height stride xs) y row
   row_put =
       let old = strided_rows width height stride xs in
@@ -102,7 +102,7 @@ module _ {T : Type 0} (width height stride : ℕ) (xs row : List T) (y : ℕ)
         ]
       ])
 
--- what was kept twice is kept
+-- Entries that are kept twice are kept.
 pub rest_kept : {T : Type 0} (width height stride : ℕ) (xs ys zs : List T) → KeepsRest width height stride xs ys →
     KeepsRest width height stride ys zs
     → KeepsRest width height stride xs zs
@@ -114,7 +114,7 @@ rest_kept width height stride xs ys zs first second = record {
 pub rest_same : {T : Type 0} (width height stride : ℕ) (xs : List T) → KeepsRest width height stride xs xs
 rest_same width height stride xs = record { count = refl; others = λ i outside. refl }
 
--- the rows of a table in front of one are written, and all else is as it was
+-- The rows of a table before row y are written, and everything else is unchanged.
 pub record WrittenBelow {T : Type 0} (width height stride : ℕ) (rows : Table T) (old now : List T) (y : ℕ) : Type 0
   where
     pub table : strided_rows width height stride now ≡ take y rows ++ drop y (strided_rows width height stride old)
@@ -124,7 +124,7 @@ module _ {T : Type 0} (width height stride : ℕ) (rows : Table T) (old : List T
   pub none_written : WrittenBelow width height stride rows old old 0
   none_written = record { table = refl; rest = rest_same width height stride old }
 
-  -- one more row
+  -- One more row.
   pub one_more_written : (now row : List T) (y : ℕ) → RowsFit width height stride (length old) → y < height → length
       now ≡ length old
       → slice_get rows y ≡ Some row → length row ≡ width → WrittenBelow width height stride rows old now y
@@ -140,7 +140,7 @@ module _ {T : Type 0} (width height stride : ℕ) (rows : Table T) (old : List T
             (rest_put width height stride now row y fits high long);
       }
 
-  -- after the last row the table is all of them
+  -- After the last row, the table consists of all rows.
   pub all_written : (now : List T) (y : ℕ) → length rows ≡ height → height ≤ y → WrittenBelow width height stride rows
       old now y
       → strided_rows width height stride now ≡ rows

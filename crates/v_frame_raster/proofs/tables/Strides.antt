@@ -1,5 +1,5 @@
--- Rows of a stride in a list, as the table that they are; rectangles of them, and the visible rows of a plane, are such
--- rows too.
+-- Rows with a stride in a list, seen as a table. Rectangles of them and the visible rows of a plane are such rows
+-- too.
 use Rattle.std.proofs.Common.{ℕ, suc, ◌≡◌, ◌+◌, ◌-◌, ◌*◌, ◌<◌, ◌≤◌, All, List, length, map, take, drop, Some, slice_get}
 use Rattle.std.proofs.Common.{sym, ◌∙◌, ap, arith, length-take-le, length-drop}
 use Rattle.std.proofs.Math.Nat.{mul-le-mul_right}
@@ -26,18 +26,18 @@ module _ {T : Type 0} (width height stride : ℕ) (xs : List T) where
       slice_get-map (take width) (cut_rows stride height xs) y _ (slice_get-cut_rows stride height xs y h)
       ∙ ap Some (take-take width stride (drop (stride * y) xs) apart)
 
--- a table is rows that fit
+-- A table consists of rows that fit.
 pub record AreRows {T : Type 0} (width height stride : ℕ) (xs : List T) (rows : Table T) : Type 0 where
   pub is : strided_rows width height stride xs ≡ rows
   pub fit : RowsFit width height stride (length xs)
 
--- and what is known of it
+-- Facts about such a table.
 module _ {T : Type 0} {width height stride : ℕ} {xs : List T} {rows : Table T}
     (known : AreRows width height stride xs rows) where
   pub height_is : height_of rows ≡ height
   height_is = rw (← known.is) (height_of_rows width height stride xs)
 
-  -- a row is this part of the list, which it ends within
+  -- A row is this part of the list, and ends within the list.
   pub row_is : (y : ℕ) → y < height_of rows → slice_get rows y ≡ Some (take width (drop (stride * y) xs))
   row_is y h = rw (← known.is) (strided_row width height stride xs y known.fit.apart (omega (arith, height_is)))
 
@@ -58,14 +58,14 @@ module _ {T : Type 0} {width height stride : ℕ} {xs : List T} {rows : Table T}
   pub rows_are_wide : All (λ row. length row ≡ width) rows
   rows_are_wide = λ k d h. ap length (get_or_from_slice_get rows k _ d (row_is k h)) ∙ row_length k h
 
-  -- so there are no more pixels than entries
+  -- There are therefore at most as many pixels as entries.
   pub pixels_fit : height * width ≤ length xs
   pixels_fit =
       let others = height - 1 in
       let e : height ≡ suc others = omega (arith, known.fit.high) in
       rw e (omega (arith, mul-le-mul_right others known.fit.apart, known.fit.within))
 
-  -- a rectangle of the rows is rows of the same stride, from its corner on
+  -- A rectangle of the rows consists of rows with the same stride, beginning at its upper left corner.
   module _ {x y w h : ℕ} (inside : IsInsideTable rows x y w h) where
     pub part_begins : stride * y + x ≤ length xs
     part_begins = omega (arith, row_ends y (omega (arith, inside.down, inside.high)), inside.across, width_is)
@@ -108,7 +108,7 @@ module _ {T : Type 0} {width height stride : ℕ} {xs : List T} {rows : Table T}
         ∙ ap Some (sym (taken_inside (drop (stride * (y + k)) xs) x w width (omega (arith, inside.across, width_is))))
         ∙ sym (slice_get-map cut below k _ row))
 
--- the visible rows of a plane
+-- The visible rows of a plane.
 module _ {T : Type 0} (g : Geometry) (xs : List T) (origin stride : ℕ) (origin_at : origin ≡ origin_of g)
     (stride_is : stride ≡ stride_of g)
     (valid : IsGeometry g) (whole : length xs ≡ alloc_size_of g) where

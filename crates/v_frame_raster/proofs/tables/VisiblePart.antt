@@ -1,6 +1,5 @@
--- A whole buffer whose visible rows alone were written, from its first visible pixel on: they are its table, and its
--- border is as
--- it was.
+-- A whole buffer of which only the visible rows were written, from its first visible pixel on: these rows are its
+-- table, and its border is unchanged.
 use Rattle.std.proofs.Common.{ℕ, ◌≡◌, ◌+◌, ◌-◌, ◌*◌, List, ◌++◌, length, take, drop, Some, slice_get, inl, inr, refl}
 use Rattle.std.proofs.Common.{sym, ◌∙◌, ap, arith, length-take-le, length-drop, length-append}
 use Rattle.std.proofs.lemmas.Bool.{cases_lt}
@@ -56,7 +55,7 @@ module _ {T : Type 0} (g : Geometry) (xs ys : List T) (origin stride : ℕ) (ori
   pub border_kept : border_of (raster g (take origin xs ++ ys)) ≡ border_of (raster g xs)
   border_kept = (made_of_entries (raster g written) (raster g xs) refl).border kept_at
 
-  -- the same of a buffer that is lent as a whole, and is as long when it comes back
+  -- The same fact for a buffer that is lent as a whole, and keeps its length.
   whole_again : refill (length xs) xs (take origin xs ++ ys) ≡ take origin xs ++ ys
   whole_again = refill_same xs (take origin xs ++ ys) length-visible_written
 

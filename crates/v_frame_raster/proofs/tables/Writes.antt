@@ -1,5 +1,5 @@
--- An entry that is set inside the rectangle is a pixel of the table, and leaves the border. And two parts of a list are
--- written that lie side by side.
+-- An entry that is set inside the visible rectangle is a pixel of the table, and the border is unchanged. Also:
+-- writes into two adjacent parts of a list.
 use Rattle.std.proofs.Common.{ℕ, ◌≡◌, ◌+◌, ◌-◌, ◌<◌, ◌≤◌, ◌↔◌, List, [], ◌++◌, length, take, drop, Option, Some, None}
 use Rattle.std.proofs.Common.{IsNone, MutBor, slice_get, slice_set, refl, ◌∙◌, ap, arith, append-nil, length-take-le}
 use Rattle.std.proofs.Common.{length-drop, length-set, inl, inr, min, sym}
@@ -29,7 +29,7 @@ module _ {T : Type 0} (p : Raster T) (x y : ℕ) (pixel : T) (wide : x < p.geome
   new_length : length (slice_set row x pixel) ≡ p.geometry.width
   new_length = length-set row x pixel ∙ row_length
 
-  -- setting the entry is writing the row with the pixel set
+  -- Setting the entry is writing the row with the pixel set.
   entry_is_in_row : slice_set p.buffer (place_of p.geometry x y) pixel
       ≡ overwritten p.buffer (row_start p.geometry y) (slice_set row x pixel)
   entry_is_in_row =
@@ -58,7 +58,7 @@ pub writes_each_pixel : {T : Type 0} (p : Raster T) (x y : ℕ) → x < p.geomet
     → WritesEachPixel p x y
 writes_each_pixel p x y wide high whole = λ pixel. writes_pixel p x y pixel wide high whole
 
--- a write where a number of a place that counts no further says leaves what one at the place does
+-- A write at a saturated index has the effect of a write at the exact index.
 pub counted_set : {X : Type 0} (xs : List X) (place : ℕ) (entry : X) → length xs ≤ usize_max
     → slice_set xs (min place usize_max) entry ≡ slice_set xs place entry
 counted_set xs place entry fits =
@@ -67,19 +67,19 @@ counted_set xs place entry fits =
       | inr within ↦ let e : min place usize_max ≡ place = omega arith in rw e
     ]
 
--- what the code's write at a place leaves
+-- The effect of the code's write at an index.
 pub set_at : {T : Type 0} (p : Raster T) (x y place : ℕ) (entry : T) → place ≡ place_of p.geometry x y →
     raster p.geometry (slice_set p.buffer place entry) ≡ with_entry p x y entry
 set_at p x y place entry at = ap (λ k. raster p.geometry (slice_set p.buffer k entry)) at
 
--- a place has no entry exactly past the end
+-- There is no entry at an index if and only if it is past the end.
 pub none_past : {X : Type 0} (r : Option (MutBor X)) (xs : List X) (place : ℕ)
     → option_copied_mut r ≡ slice_get xs place → IsNone r ↔ (length xs ≤ place)
 none_past None xs place e = none_past_end xs place None e
 none_past (Some r) xs place e = none_past_end xs place (Some r.now) e
 
 module _ {T : Type 0} where
-  -- two parts that lie side by side, up to the end of a list
+  -- Two adjacent parts, up to the end of a list.
   pub parts_to_the_end : (xs ys zs : List T) (start width : ℕ) → start + width ≤ length xs →
       with_two_parts xs start width (start + width) (length xs - (start + width)) ys zs ≡ take start xs ++ (ys ++ zs)
   parts_to_the_end xs ys zs start width inside =

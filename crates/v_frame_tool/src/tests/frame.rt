@@ -1,4 +1,4 @@
-//! Frames: built, refused and cloned.
+//! Tests of frames: successful builds, errors and clones.
 
 mod builds;
 mod clones;

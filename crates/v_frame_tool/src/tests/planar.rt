@@ -1,4 +1,4 @@
-//! Planar bytes: frames that are read and written, from and to streams of all habits.
+//! Tests of planar bytes: frames that are read from and written to streams with different habits.
 
 mod calls;
 mod reads;

@@ -1,4 +1,4 @@
-//! Planes: their geometries, what they show, and what is written into them.
+//! Tests of planes: geometries, visible pixels, and writes.
 
 mod byte_copies;
 mod clones;

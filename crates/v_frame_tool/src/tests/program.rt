@@ -1,4 +1,4 @@
-//! The program: what it prints, and when it gives up.
+//! Tests of the program: its output, and its errors.
 
 mod lengths;
 mod runs;

@@ -1,4 +1,4 @@
-//! Lists of calls that are replayed on a frame: what each answers, and what is left.
+//! Tests of lists of calls that are replayed on a frame: the result of each call, and the planes afterwards.
 
 use crate::tests::support::buffers::IN_200;
 use crate::tests::support::checks::{Test, must, same};
@@ -17,7 +17,7 @@ use v_frame::replay::Side::{Back, Front};
 /// The pixels 1 to 6.
 const SIX: [u8; 6] = [1, 2, 3, 4, 5, 6];
 
-/// Two pixels by two with a border column to the right.
+/// Two by two pixels with a border column to the right.
 const COLUMN: Layout = (2, 2, [0, 1, 0, 0]);
 
 #[test]
@@ -186,7 +186,7 @@ fn planes_that_a_user_replaced_answer_by_their_own_size(rt: HostRuntime) {
     drop(frame);
 }
 
-/// Three planes of words, which show these pixels in borders of 43981.
+/// Returns a frame of three planes of two-byte pixels that show these values, in borders of 43981.
 fn framed(rt: &impl Test, (width, height, padding): Layout, shown: &[[u16; 6]; 3]) -> Frame<u16> {
     let mut frame = built(rt, padded((width, height), Yuv444, 16, padding));
     for (index, pixels) in shown.iter().enumerate() {

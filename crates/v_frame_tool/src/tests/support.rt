@@ -1,4 +1,4 @@
-//! What tests of more than one file stand on: fixtures, calls and answers as values, comparisons, readers and writers.
+//! Code that tests in more than one file use: fixtures, calls and results as values, comparisons, readers and writers.
 
 pub mod buffers;
 pub mod bytes;

@@ -1,4 +1,4 @@
--- The table is made of the visible entries, and the border of the others.
+-- The visible entries determine the table, and the other entries determine the border.
 use Rattle.std.proofs.Common.{length, ◌∙◌, ap, refl}
 use Rattle.v_frame.specs.Prelude.{raster, filled}
 use Rattle.example_callers.proofs.FilledBorders.{put_back, agrees_with_filled}

@@ -1,4 +1,4 @@
--- Each part of the border is filled in its turn, and what is visible is passed over.
+-- Each part of the border is filled in turn, and the visible entries are skipped.
 use Rattle.std.proofs.Common.{ℕ, ◌≡◌, ◌+◌, ◌*◌, ◌<◌, ◌≤◌, refl, arith}
 use Rattle.v_frame.specs.Prelude.{Border, stride_of, alloc_height_of, alloc_size_of}
 use Rattle.example_callers.proofs.FilledBorders.{nothing_filled, part_filled, marks_of_rows, marks_left, marks_visible}

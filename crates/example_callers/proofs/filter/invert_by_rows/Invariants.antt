@@ -1,4 +1,4 @@
--- The rows so far are inverted, and the others and the border are as they were.
+-- The rows so far are inverted, and the other rows and the border are unchanged.
 use Rattle.std.proofs.Common.{ℕ, ◌≡◌, ◌-◌, ◌<◌, ◌≤◌, List, length, Some, slice_get}
 use Rattle.v_frame.specs.Prelude.{KeepsBorder, table_of}
 use Rattle.v_frame_ops.specs.Prelude.{mapped}

@@ -1,4 +1,4 @@
--- The pixels so far are inverted, and the others are as they were.
+-- The pixels so far are inverted, and the others are unchanged.
 use Rattle.std.proofs.Common.{◌≡◌, ◌-◌, ◌++◌, take, drop}
 use Rattle.v_frame_ops.specs.Prelude.{mapped}
 use Rattle.example_callers.proofs.filter.invert_row.Given as goal

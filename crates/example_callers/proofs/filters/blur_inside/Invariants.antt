@@ -1,4 +1,4 @@
--- The rows so far are means, and the border is as it was.
+-- The rows so far are means, and the border is unchanged.
 use Rattle.std.proofs.Common.{ℕ, ◌≡◌, ◌<◌, Some}
 use Rattle.v_frame.specs.Prelude.{KeepsBorder, pixel_at, table_of}
 use Rattle.example_callers.specs.Filters.{mean_of_nine}

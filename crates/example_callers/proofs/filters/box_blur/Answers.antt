@@ -1,4 +1,4 @@
--- What is around the picture is the nearest of its pixels, at each of the nine places.
+-- At each of the nine positions, a position outside the picture has the value of the nearest pixel.
 use Rattle.std.proofs.Common.{ℕ, ◌≡◌, ◌+◌, ◌-◌, ◌<◌, Option, Some, ◌∙◌, ap, arith}
 use Rattle.v_frame.specs.Prelude.{pixel_at, table_of, whole_rows, width_of, height_of}
 use Rattle.v_frame_ops.specs.Prelude.{nearest}

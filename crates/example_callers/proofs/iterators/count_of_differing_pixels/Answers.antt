@@ -1,4 +1,4 @@
--- Where one of the planes has no more pixels, no pair is left.
+-- If one of the planes has no more pixels, no pair remains.
 use Rattle.std.proofs.Common.{◌≡◌, List, [], ◌∷◌, inl, inr, refl, arith}
 use Rattle.std.proofs.lemmas.Grind.{common_steps}
 use Rattle.std.specs.List.{zip}

@@ -1,4 +1,4 @@
--- The count so far and that of the pairs that are left are the whole.
+-- The count so far plus the count for the remaining pairs is the whole count.
 use Rattle.std.proofs.Common.{◌≡◌, ◌+◌, ◌^◌, ◌≤◌, length, not}
 use Rattle.std.specs.Prelude.{count_by}
 use Rattle.std.specs.List.{zip}

@@ -1,4 +1,5 @@
--- The sum so far and that of what is left are the whole, and no sum grows past what so many pixels can have.
+-- The sum so far plus the sum of the remaining pixels is the whole sum, and no sum exceeds the maximum for this
+-- number of pixels.
 use Rattle.std.proofs.Common.{◌≡◌, ◌+◌, ◌*◌, ◌^◌, ◌≤◌, length, sum_by}
 use Rattle.v_frame.specs.Prelude.{table_of, row_major}
 use Rattle.example_callers.proofs.iterators.sum_of_pixels.Given as goal

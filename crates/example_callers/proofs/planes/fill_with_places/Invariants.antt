@@ -1,4 +1,4 @@
--- The entries so far hold their indexes.
+-- The entries so far hold their indices.
 use Rattle.std.proofs.Common.{◌≡◌, ◌%◌, ◌<◌, ℕ, None, Some, slice_index_or}
 use Rattle.example_callers.proofs.planes.fill_with_places.Given as goal
 

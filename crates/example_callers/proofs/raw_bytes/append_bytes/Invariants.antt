@@ -1,4 +1,5 @@
--- What was appended and what is left are the bytes of the plane, and there is room for what is left.
+-- The appended bytes and the remaining bytes are those of the plane, and the memory for the remaining bytes is
+-- reserved.
 use Rattle.std.proofs.Common.{◌≡◌, ◌++◌, ◌+◌, ◌≤◌, length, vec_len, vec_capacity}
 use Rattle.v_frame.specs.Prelude.{table_of, byte_list}
 use Rattle.example_callers.proofs.raw_bytes.append_bytes.Given as goal

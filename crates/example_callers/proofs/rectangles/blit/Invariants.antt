@@ -1,4 +1,4 @@
--- The rows so far have the pixels of the source, and the others and the border are as they were.
+-- The rows so far have the pixels of the source, and the other rows and the border are unchanged.
 use Rattle.std.proofs.Common.{ℕ, ◌≡◌, ◌+◌, ◌<◌, ◌≤◌, ◌⊎◌, List, Some, take, drop, slice_get}
 use Rattle.v_frame.specs.Prelude.{KeepsBorder, table_of}
 use Rattle.example_callers.specs.Rectangles.{with_pixels}

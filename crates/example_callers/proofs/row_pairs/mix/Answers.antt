@@ -1,11 +1,11 @@
--- One more pixel is an average, and at the end all are.
+-- One more pixel is an average, and at the end all pixels are.
 use Rattle.std.proofs.Common.{ℕ, zero, suc, ◌≡◌, ◌+◌, ◌/◌, ◌<◌, ◌≤◌, List, [], ◌∷◌, ◌++◌, length, take, drop}
 use Rattle.std.proofs.Common.{slice_index_or, slice_set, refl, ap, arith, append-nil}
 use Rattle.std.proofs.{lemmas.List.drop_all, lemmas.List.length-map, lemmas.List.take_all, lemmas.Slice.Zip.length-zip}
 use Rattle.example_callers.specs.{RowPairs.averages}
 use Rattle.example_callers.proofs.row_pairs.mix.Goals as goal
 
--- the averages of the first pixels, and the pixels after them
+-- The averages of the first pixels, followed by the old pixels.
 abbrev mixed : List ℕ → List ℕ → ℕ → List ℕ
 mixed row other x = take x (averages row other) ++ drop x row
 

@@ -1,4 +1,4 @@
--- The pixels so far are averages, and the others are as they were.
+-- The pixels so far are averages, and the others are unchanged.
 use Rattle.std.proofs.Common.{◌≡◌, ◌++◌, take, drop}
 use Rattle.example_callers.specs.RowPairs.{averages}
 use Rattle.example_callers.proofs.row_pairs.mix.Given as goal

@@ -1,4 +1,4 @@
--- One more frame was carried, and made brighter.
+-- One more frame was copied with brighter luma.
 use Rattle.std.proofs.Common.{◌≡◌, ◌∙◌, ap, rules}
 use Rattle.v_frame.specs.Prelude.{tables_of}
 use Rattle.v_frame_planar.specs.Planar.{sizes_of}

@@ -1,4 +1,4 @@
--- One more frame was carried as it is.
+-- One more frame was copied unchanged.
 use Rattle.std.proofs.Common.{◌≡◌, ◌∙◌, refl, rules, arith}
 use Rattle.v_frame.specs.Prelude.{tables_of}
 use Rattle.example_callers.proofs.Carrying.{none_yet, no_more_frames, one_more_frame}

@@ -1,4 +1,4 @@
--- The frames so far were carried, and the next one has their size.
+-- The frames so far were copied, and the next one has their size.
 use Rattle.std.proofs.Common.{◌≡◌}
 use Rattle.v_frame.specs.Prelude.{tables_of}
 use Rattle.v_frame_planar.specs.Planar.{sizes_of}

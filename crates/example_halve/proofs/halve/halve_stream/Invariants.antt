@@ -1,4 +1,4 @@
--- The borders are as they were.
+-- The borders are unchanged.
 use Rattle.v_frame.specs.Prelude.{KeepsBorders}
 use Rattle.example_halve.proofs.halve.halve_stream.Given as goal
 

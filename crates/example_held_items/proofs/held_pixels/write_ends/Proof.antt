@@ -1,6 +1,5 @@
--- `write_ends` holds three pixels, and writes through them once the iterator is dropped. What a plane ends as, of which
--- such pixels were lent, no generated
--- proof follows, so this one follows the code.
+-- `write_ends` keeps three pixels, and writes through them after the iterator is dropped. Generated proofs cannot
+-- follow the final state of a plane whose pixels were lent in this way, so this hand-written proof follows the code.
 use Rattle.v_frame_buffer.proofs.Steps.{Goes-dropped, Goes-ref, Is, Lft, List, NamedLft, Stays, Val, a_type, addr}
 use Rattle.v_frame_buffer.proofs.Steps.{alloc_all, and_then, ap, arith, bounded, dcons, dnil, enter, env, feq_i, fld}
 use Rattle.v_frame_buffer.proofs.Steps.{free_all, from, get, get_in, get_tag, give_at, in_variant, inst_fn, lands_as}
@@ -54,7 +53,7 @@ write_ends_spec 𝓤 𝓛 𝓜 𝓡 wired T laws copy clone dict met =
     let pixels = row_major (table_of plane.now) in let Many = 2 < length pixels in
     opened_by 𝓛 ended.signature κs qs a bound.0.4 _ ((κT ⊑ T.lives) × Many) (both_facts 𝓤 (κT ⊑ T.lives) Many)
     (λ known. let inT = known.0 in
-    -- [the tokens of κ and κT; the plane; the three values]
+    -- Context: [the tokens of κ and κT; the plane; the three values]
     enter ! _ _ _ _ _ $ alloc_all ! (λ l. pass_all ! refl ((tt, tt), (wx, (wy, (wz, tt)))) $
     sets ! (addr ! (through ! refl (stop !))) refl (tt, tt) $ move ! (2 ∷ 0 ∷ 1 ∷ []) $ begins_walk 𝓛 𝓜 𝓡 T laws
     of_pixels _ _ _ _ _ _ _ _ !
@@ -66,21 +65,21 @@ write_ends_spec 𝓤 𝓛 𝓜 𝓡 wired T laws copy clone dict met =
     let ℓ : NamedLft = record { mir = named 1; lft = κ' } in let loan = record plane { ghost_name = δ } in
     let lowered = (lowers 𝓛 𝓜 𝓡 T laws of_pixels ℓ).lowered in
     lands_as ! refl refl typed.0 $ sets ! (of_opd ! (get ! refl)) refl typed.0 $
-    -- [what the iterator owns; how the plane ends; the tokens of κ' and κT; its lender; the way back; the three values;
-    -- the locals]
+    -- Context: [the resources of the iterator; how the plane ends; the tokens of κ' and κT; its lender; the way back;
+    -- the three values; the locals]
     let 𝓣 = tables 𝓤 𝓛.H 𝓜 𝓡 𝓡.env in let En = env function.locals l in let τ = (spot_of 𝓤 𝓛.H En 5).0 in
     let last_met = of_walks.next_back.Met.met 𝓤 𝓛 𝓜 𝓡
     (code.calls-v_frame_plane::pixels_mut::PixelsMut::next_back 𝓡.env wired) T laws in
     let first_met = of_walks.next.Met.met 𝓤 𝓛 𝓜 𝓡 (code.calls-v_frame_plane::pixels_mut::PixelsMut::next 𝓡.env wired) T
     laws in
     let some₀ : 2 < length (pixels_left walk) = omega (arith, known.1, ap length begun.all) in
-    -- the last pixel
+    -- The last pixel.
     sets ! (addr ! (from ! (stop !))) refl (tt, tt) $ take_at ! 5 $ move ! (0 ∷ 1 ∷ 3 ∷ 4 ∷ []) $
     draws_item 𝓛 𝓜 𝓡 T laws Back of_pixels _ _ _ _ _ _ _ _ ! last_met κ' κT s rT inside inT τ (l 5) walk refl
     (λ i j m. get ! refl) (λ one none.
     absurd (omega (arith, some₀, ap length none.0)))
     (λ end one last _. give_at ! 5 $ lands_as ! refl refl (tt, (record { fits = lit< tt }, (tt, tt))) $
-    -- [the pixel; the iterator; the token of κ'; how it was drawn; the token of κT; ..]. The first pixel
+    -- Context: [the pixel; the iterator; the token of κ'; how it was drawn; the token of κT; ..]. The first pixel.
     let some₁ : 1 < length (pixels_left one) = omega
     (arith, some₀, ap length last, length-append (pixels_left one) (end.now ∷ [])) in
     sets ! (addr ! (from ! (stop !))) refl (tt, tt) $ take_at ! 5 $ move ! (0 ∷ 2 ∷ 3 ∷ 5 ∷ []) $
@@ -88,15 +87,15 @@ write_ends_spec 𝓤 𝓛 𝓜 𝓡 wired T laws copy clone dict met =
     (λ i j m. get ! refl) (λ two none.
     absurd (omega (arith, some₁, ap length none.0)))
     (λ start two foremost _. give_at ! 5 $ lands_as ! refl refl (tt, (record { fits = lit< tt }, (tt, tt))) $
-    -- the last but one
+    -- The last pixel but one.
     let some₂ : 0 < length (pixels_left two) = omega (arith, some₁, ap length foremost) in
     sets ! (addr ! (from ! (stop !))) refl (tt, tt) $ take_at ! 5 $ move ! (0 ∷ 2 ∷ 3 ∷ 5 ∷ []) $
     draws_item 𝓛 𝓜 𝓡 T laws Back of_pixels _ _ _ _ _ _ _ _ ! last_met κ' κT s rT inside inT τ (l 5) two refl
     (λ i j m. get ! refl) (λ three none.
     absurd (omega (arith, some₂, ap length none.0)))
     (λ before three next_to _. give_at ! 5 $ lands_as ! refl refl (tt, (record { fits = lit< tt }, (tt, tt))) $
-    -- [the pixel; the iterator; the token of κ'; how it was drawn; the token of κT; the first pixel, and how it was
-    -- drawn; the last one, and how; ..]
+    -- Context: [the pixel; the iterator; the token of κ'; how it was drawn; the token of κT; the first pixel, and how
+    -- it was drawn; the last one, and how it was drawn; ..]
     first ! $ blocks ! $ first ! $ blocks ! $ takes_arm ! (get_tag ! (vrt ! refl (fld ! refl (stop !))) (whole !)) $
     takes_arm ! (get_tag ! (vrt ! refl (fld ! refl (stop !))) (whole !)) $ takes_arm !
     (get_tag ! (vrt ! refl (fld ! refl (stop !))) (whole !)) $
@@ -107,12 +106,12 @@ write_ends_spec 𝓤 𝓛 𝓜 𝓡 wired T laws copy clone dict met =
     sets ! (of_opd ! (get_in ! (vrt ! refl (fld ! refl (stop !))) (in_variant ! 1 0 refl refl (whole !)))) refl
     (tt, tt) $
     jumps ! $ exec ! 𝓣.C 𝓣.Λ En (after 10 function.body) (at_ret En (Walk.post bound)) $
-    -- the value that is written twice is there twice
+    -- The value that is written twice is copied.
     move ! (1 ∷ []) $ move ! (14 ∷ []) $ use1 𝓛 (‵ (item.own_val z (val z)) ⊛ ‵ (item.own_val z (val z)))
     ((copy.copies _ 𝓤 𝓛).twice z (val z)) $ split ! $
-    -- [the last value, twice; what the iterator left; the last but one; the token of κ'; how it was drawn; the token of
-    -- κT; the first pixel, and how it was
-    -- drawn; the last one, and how; how the plane ends; its lender; the way back; the other values; the locals]
+    -- Context: [the last value, twice; the final values of the iterator; the last but one; the token of κ'; how it
+    -- was drawn; the token of κT; the first pixel, and how it was drawn; the last one, and how it was drawn; how the
+    -- plane ends; its lender; the way back; the other values; the locals]
     move ! (7 ∷ 4 ∷ 0 ∷ []) $ writes_pixel ! T copy κ' s start z wz (λ i j m n v. of_opd ! (get ! refl))
     (λ i j m n v. through ! refl (stop !)) $
     move ! (4 ∷ 1 ∷ 14 ∷ []) $ writes_pixel ! T copy κ' s before y wy (λ i j m n v. of_opd ! (get ! refl))
@@ -122,19 +121,19 @@ write_ends_spec 𝓤 𝓛 𝓜 𝓡 wired T laws copy clone dict met =
     (λ i j m n v. through ! refl (stop !)) $
     move ! (8 ∷ 1 ∷ 3 ∷ []) $ writes_pixel ! T copy κ' s end z wz (λ i j m n v. of_opd ! (get ! refl))
     (λ i j m n v. through ! refl (stop !)) $
-    -- [the last pixel; the token of κ'; the first; the last but one; the iterator; how the last but one was drawn; the
-    -- token of κT; how the first and the last were; how the plane ends; what its lender keeps; the way back]. The law of
-    -- the iterator is called
+    -- Context: [the last pixel; the token of κ'; the first; the last but one; the iterator; how the last but one was
+    -- drawn; the token of κT; how the first and the last were; how the plane ends; the lender's part; the way back].
+    -- The law of the iterator is called.
     calls ! (6 ∷ []) (framed 𝓤 𝓛.H 𝓜 𝓣) (law 𝓛 𝓜 𝓡 T of_pixels).0 (law 𝓛 𝓜 𝓡 T of_pixels).1
     (law_met.met 𝓤 𝓛 𝓜 𝓡 (code.calls-v_frame_plane::laws::dropped_pixels_keep_their_values 𝓡.env wired) T laws)
     (((κT, tt), (rT, tt), tt, tt, tt), tt) (asks_that 𝓤 inT) refl (no_more !) (λ r us. ‵ (Law T of_pixels) ∷ [])
     (λ r us. id⊢ 𝓤 _) (λ v r us. feq_l ! (λ is_unit. lands_as ! (ap only is_unit) refl (tt, tt) $
-    -- [the law; the token of κT; the last pixel; the token of κ'; the first; the last but one; the iterator; how the last
-    -- but one was drawn, and the first, and the last; how the plane ends; ..]
+    -- Context: [the law; the token of κT; the last pixel; the token of κ'; the first; the last but one; the iterator;
+    -- how the last but one was drawn, and the first, and the last; how the plane ends; ..]
     move ! (0 ∷ 6 ∷ 10 ∷ []) $ use3 𝓛 (‵ (FinalPixels item three (pixels_left three)) ⊛ ‵ (EndsBy T of_pixels loan walk))
     (by_law T 𝓛 of_pixels ℓ three walk (lowered three ∷ []) loan begun) $ split ! $
-    -- [the final values; how the plane ends; the token of κT; the last pixel; the token of κ'; the first; the last but
-    -- one; how each was drawn; its lender; the way back]
+    -- Context: [the final values; how the plane ends; the token of κT; the last pixel; the token of κ'; the first;
+    -- the last but one; how each was drawn; its lender; the way back]
     move ! (6 ∷ 7 ∷ 0 ∷ []) $ gives_back ! Back T κ' two three before y (pixels_left three) $
     move ! (5 ∷ 6 ∷ 0 ∷ []) $ gives_back ! Front T κ' one two start x (pixels_left three ++ y ∷ []) $
     move ! (3 ∷ 5 ∷ 0 ∷ []) $ gives_back ! Back T κ' walk one end z (x ∷ (pixels_left three ++ y ∷ [])) $
@@ -143,9 +142,9 @@ write_ends_spec 𝓤 𝓛 𝓜 𝓡 wired T laws copy clone dict met =
     start.now before.now end.now x y z (sym begun.all ∙ last) foremost next_to) refl $
     let written = with_ends x y z pixels in
     use2 𝓛 (‵ (EndsAs 𝓛 T loan of_pixels written)) (ends_as 𝓛 T loan of_pixels walk written tt) $ fpick ! (λ shows.
-    -- [how the plane ends; the tokens of κT and κ'; its lender; the way back; the locals]
+    -- Context: [how the plane ends; the tokens of κT and κ'; its lender; the way back; the locals]
     move ! (0 ∷ 2 ∷ 1 ∷ []) $ table_back ! tt T α δ κ κT q qT plane (as_table 𝓛 T loan of_pixels written) (λ new told_of.
-    -- [the token of κT; the plane; the token of κ; the locals]
+    -- Context: [the token of κT; the plane; the token of κ; the locals]
     sets ! (of_opd ! (unit_lit !)) refl (tt, tt) $ returns ! (look_at ! 0 refl) $ free_all ! refl $
     nothing ! $ nothing ! $ nothing ! $ feq_i ! (List Val) (vunit ∷ []) (vunit ∷ []) refl $
     ends ! (6 ∷ 4 ∷ 5 ∷ 1 ∷ 2 ∷ 3 ∷ 0 ∷ []) ended stayed c bound vunit tt (new, (tt, (tt, (tt, tt))))

@@ -1,4 +1,4 @@
--- The row so far begins with the value.
+-- The entries of the row so far have the value.
 use Rattle.std.proofs.Common.{◌≡◌, ◌++◌, drop, replicate}
 use Rattle.example_held_items.proofs.held_rows.fill.Given as goal
 

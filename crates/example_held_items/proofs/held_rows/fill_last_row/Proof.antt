@@ -1,6 +1,6 @@
--- `fill_last_row` lends its plane to an iterator, draws a row from its end, fills it, and drops the iterator. What a
--- plane ends as, of which such a row was
--- lent, no generated proof follows, so this one follows the code.
+-- `fill_last_row` lends its plane to an iterator, takes a row from its end, fills it, and drops the iterator.
+-- Generated proofs cannot follow the final state of a plane whose row was lent in this way, so this hand-written
+-- proof follows the code.
 use Rattle.v_frame_buffer.proofs.Steps.{Goes-dropped, Goes-ref, List, NamedLft, SProp, Sq, Stays, Val, a_type, addr}
 use Rattle.v_frame_buffer.proofs.Steps.{after, agg, alloc_all, and_then, at_ret, bounded, dcons, dnil, drop, enter, env}
 use Rattle.v_frame_buffer.proofs.Steps.{exec, fact, feq_i, feq_l, first, fld, flft, framed, free_all, from, fsplit, get}
@@ -57,7 +57,7 @@ fill_last_row_spec 𝓤 𝓛 𝓜 𝓡 wired T laws copy clone dict met =
     y in
     let fits = (((param_laws 0 T laws).lawful 𝓛).typed value (val value) are.1.0).0 in
     opened 𝓛 ended.signature κs qs a (mut_vals plane, (val value, tt)) (κT ⊑ T.lives) (λ inT.
-    -- [the tokens of κ and κT; the plane; the value]
+    -- Context: [the tokens of κ and κT; the plane; the value]
     enter ! _ _ _ _ _ $ alloc_all ! (λ l. pass_all ! refl ((tt, tt), (fits, tt)) $ let En = env function.locals l in
     sets ! (addr ! (through ! refl (stop !))) refl (tt, tt) $ move ! (2 ∷ 0 ∷ 1 ∷ []) $ begins_walk 𝓛 𝓜 𝓡 T laws
     of_rows _ _ _ _ _ _ _ _ !
@@ -69,7 +69,7 @@ fill_last_row_spec 𝓤 𝓛 𝓜 𝓡 wired T laws copy clone dict met =
     let ℓ : NamedLft = record { mir = named 1; lft = κw } in let loan = record plane { ghost_name = δ } in
     let lowered = (lowers 𝓛 𝓜 𝓡 T laws of_rows ℓ).lowered in
     lands_as ! refl refl typed.0 $ sets ! (of_opd ! (get ! refl)) refl typed.0 $
-    -- how it ends: the row that was drawn, if any, is put back as it is filled
+    -- The final state: the row that was taken, if any, is put back after it was filled.
     let change = λ (row : List T.Denot). replicate (length row) value in let last = put_back Back change
     (item_from Back table) (remaining_after Back table) in
     let Puts : RowsMut T.Denot → Item 𝓤 = λ left. raw (Put 𝓛 T of_rows Back change w left) in
@@ -79,13 +79,13 @@ fill_last_row_spec 𝓤 𝓛 𝓜 𝓡 wired T laws copy clone dict met =
     ‵ (LendsRows item loan w) ∷ Kept_by 𝓛 T α δ κ κT q plane ∷ raw
     (Back_to 𝓛 α κT (Share.left qT)) ∷
     holding 𝓛 En []) (runs 𝓣.C 𝓣.Λ En (after 6 function.body) (at_ret En Post)) = λ left fewer.
-    -- the law of the iterator is called
+    -- The law of the iterator is called.
     calls ! (3 ∷ []) run (law 𝓛 𝓜 𝓡 T of_rows).0 (law 𝓛 𝓜 𝓡 T of_rows).1
     (law_met.met 𝓤 𝓛 𝓜 𝓡 (code.calls-v_frame_plane::laws::held_rows_are_the_table 𝓡.env wired) T laws)
     (((κT, tt), (rT, tt), tt, tt, tt), tt) (asks_that 𝓤 inT) refl (no_more !) (λ r us. ‵ (Law T of_rows) ∷ [])
     (λ r us. id⊢ 𝓤 _) (λ v r us. feq_l ! (λ is_unit. lands_as ! (ap only is_unit) refl (tt, tt) $
-    -- [the law; the token of κT; what is put back; the iterator; the token of κw; what is said of the plane; its lender;
-    -- the way back]
+    -- Context: [the law; the token of κT; the items to put back; the iterator; the token of κw; the clauses about the
+    -- plane; its lender; the way back]
     move ! (0 ∷ 3 ∷ 5 ∷ []) $ use3 𝓛 (‵ (FinalRows item left (rows_left left)) ⊛ ‵ (EndsBy T of_rows loan w))
     (by_law T 𝓛 of_rows ℓ left w (lowered left ∷ []) loan begun) $ split ! $ move ! (0 ∷ 3 ∷ []) $
     let before = put_back Back change (item_from Back (rows_left w)) in let is : before (rows_left left) ≡ last = rw
@@ -98,23 +98,23 @@ fill_last_row_spec 𝓤 𝓛 𝓜 𝓡 wired T laws copy clone dict met =
     nothing ! $ feq_i ! (List Val) (vunit ∷ []) (vunit ∷ []) refl $ ends ! (4 ∷ 2 ∷ 3 ∷ 1 ∷ 0 ∷ []) ended stayed c y
     vunit tt (new, (tt, tt))
     (tt, (tt, tt)) refl $ tells ! (told_of.table ∙ filled.0) $ told ! (λ k. (told_of.geometry k, told_of.border k))))) in
-    -- [the iterator; how the plane ends; the tokens of κw and κT; the plane's lender; the way back; the value; the
-    -- locals]. A row is drawn
+    -- Context: [the iterator; how the plane ends; the tokens of κw and κT; the plane's lender; the way back; the
+    -- value; the locals]. A row is taken.
     sets ! (addr ! (from ! (stop !))) refl (tt, tt) $ take_at ! 3 $ move ! (0 ∷ 1 ∷ 3 ∷ 4 ∷ []) $
     draws_item 𝓛 𝓜 𝓡 T laws Back of_rows _ _ _ _ _ _ _ _ !
     (of_walks.next_back.Met.met 𝓤 𝓛 𝓜 𝓡 (code.calls-v_frame_plane::rows_mut::RowsMut::next_back 𝓡.env wired) T laws) κw
     κT qw rT inside inT
     (spot_of 𝓤 𝓛.H En 3).0 (l 3) w refl (λ i j m. get ! refl)
-    -- where there is none, the iterator is dropped as it is
+    -- If there is no row, the iterator is dropped unchanged.
     (λ left none. let drawn = last_drawn rows_left w None left none in give_at ! 3 $ lands_as ! refl refl
     (tt, (record { fits = lit< tt }, tt)) $
     first ! $ takes_other ! (get_tag ! (vrt ! refl (fld ! refl (stop !))) (whole !)) $ skips ! $ exec ! 𝓣.C 𝓣.Λ En
     (after 6 function.body) (at_ret En Post) $
-    -- [the iterator; the token of κw; what the draw says; the token of κT; how the plane ends; the plane's lender; the
-    -- way back; the value; the locals]
+    -- Context: [the iterator; the token of κw; the clauses of the draw; the token of κT; how the plane ends; the
+    -- plane's lender; the way back; the value; the locals]
     move ! (7 ∷ 2 ∷ []) $ drop ! $ use1 𝓛 (Puts left) (none_taken 𝓛 T Back of_rows change w left (sym drawn.0)) $
     forget_but ! En [] refl $ finish left drawn.1)
-    -- where there is one, it is filled
+    -- If there is a row, it is filled.
     (λ row left steps is. let drawn = last_drawn rows_left w (Some row) left steps in let row_fits = is.0.1.0 in
     give_at ! 3 $ lands_as ! refl refl (tt, (record { fits = lit< tt }, ((tt, (record { fits = row_fits }, tt)), tt))) $
     first ! $ takes_arm ! (get_tag ! (vrt ! refl (fld ! refl (stop !))) (whole !)) $
@@ -124,8 +124,8 @@ fill_last_row_spec 𝓤 𝓛 𝓜 𝓡 wired T laws copy clone dict met =
     sets ! (agg ! (and_then ! (get ! refl) (and_then ! (get_in ! (fld ! refl (stop !)) (sub ! 1 refl (whole !)))
     (no_more !)))) refl
     (tt, (tt, (record { fits = row_fits }, tt))) $
-    -- [the row; the iterator; the token of κw; what the draw says; the token of κT; how the plane ends; its lender; the
-    -- way back; the value; the locals]
+    -- Context: [the row; the iterator; the token of κw; the clauses of the draw; the token of κT; how the plane ends;
+    -- its lender; the way back; the value; the locals]
     calls_last ! (2 ∷ 4 ∷ 0 ∷ 8 ∷ []) run (fill.ended T clone dict) (fill.clauses T clone dict 𝓛 𝓜.mem 𝓡.returns)
     (fill_met.met 𝓤 𝓛 𝓜 𝓡 (code.calls-example_held_items::held_rows::fill 𝓡.env wired) T laws copy clone dict met)
     (((κw, (κT, tt)), (qw, (rT, tt)), (inside, tt), (row, (value, tt)), (slice_of row ∷ [], (val value, tt))), tt)
@@ -134,13 +134,13 @@ fill_last_row_spec 𝓤 𝓛 𝓜 𝓡 wired T laws copy clone dict met =
     (λ u lasting. raw (fact 𝓤 (lasting.0 ≡ change row.now)) ∷ [])
     (λ u lasting. id⊢ 𝓤 _) (λ v u lasting. feq_l ! (λ is_unit. heard ! _ (λ is_filled.
     lands_last ! refl (unit_fits is_unit) $ exec ! 𝓣.C 𝓣.Λ En (after 6 function.body) (at_ret En Post) $
-    -- [the tokens of κw and κT; how the row ends; nothing; the iterator; what the draw says; how the plane ends; the
-    -- plane's lender; the way back; the locals]
+    -- Context: [the tokens of κw and κT; how the row ends; nothing; the iterator; the clauses of the draw; how the
+    -- plane ends; the plane's lender; the way back; the locals]
     move ! (2 ∷ []) $ fsplit ! $ fsplit ! $ use1 𝓛 (‵ (EndsAs item row.ghost_name lasting.0))
     (finally-res 𝓛 item row.ghost_name lasting.0) $
     rewrite ! 0 (λ (xs : List T.Denot). ‵ (EndsAs item row.ghost_name xs)) is_filled refl $
-    -- [how the row ends; its length; its borrow; the tokens of κw and κT; nothing; the iterator; what the draw says;
-    -- how the plane ends; ..]
+    -- Context: [how the row ends; its length; its borrow; the tokens of κw and κT; nothing; the iterator; the clauses
+    -- of the draw; how the plane ends; ..]
     move ! (1 ∷ 2 ∷ 5 ∷ 0 ∷ 7 ∷ []) $ drop ! $ drop ! $ drop ! $ use2 𝓛 (Puts left)
     (item_taken 𝓛 T Back of_rows change w left row (sym drawn.0)) $
     move ! (0 ∷ 3 ∷ []) $ forget_but ! En [] refl $ finish left drawn.1))))))))

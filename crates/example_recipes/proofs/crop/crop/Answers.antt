@@ -1,4 +1,4 @@
--- A pixel of the part is one of the picture.
+-- A pixel of the part is a pixel of the picture.
 use Rattle.std.proofs.Common.{ℕ, ◌≡◌, ◌+◌, ◌∙◌, sym, ap, arith}
 use Rattle.v_frame.specs.Prelude.{pixel_at, table_of, Table}
 use Rattle.example_recipes.proofs.crop.crop.Goals as goal

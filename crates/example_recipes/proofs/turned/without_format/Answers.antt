@@ -1,4 +1,4 @@
--- What `retain` keeps is what its test filters.
+-- `retain` keeps the items for which its test is true.
 use Rattle.std.proofs.Common.{rules, ◌≡◌, ◌∙◌, ap, subst, sym, All}
 use Rattle.std.proofs.lemmas.List.Elements.{filter_from_retain, All-filter}
 use Rattle.v_frame_y4m.specs.Header.{IsPiece}

@@ -1,4 +1,4 @@
--- Draws by counts give each item once.
+-- Calls by number yield each item once.
 use Rattle.std.proofs.lemmas.Result.{IfOk-weaker}
 use Rattle.v_frame.proofs.Draws.{sides_drawn_once}
 use Rattle.v_frame.proofs.laws.pixels_are_drawn_once.Goals as goal

@@ -1,4 +1,4 @@
--- One more call: its answer, its tables, and the planes that it may write.
+-- One more call: its result, its tables, and the planes that it may write.
 use Rattle.std.proofs.Common.{◌≡◌, ◌<◌, length, refl, ◌∙◌, ap, arith}
 use Rattle.std.proofs.lemmas.List.{take_all}
 use Rattle.v_frame.specs.Frame.{tables_of, plane_at}

@@ -1,4 +1,4 @@
--- The answers and the tables are those of the calls so far, and there is room for the answers of the others.
+-- The results and the tables are those of the calls so far, and the memory for the other results is allocated.
 use Rattle.std.proofs.Common.{◌≡◌, ℕ, ◌≤◌, length, take, vec_len, vec_capacity}
 use Rattle.v_frame.specs.Frame.{tables_of, plane_at, KeepsBorders}
 use Rattle.v_frame.specs.Replay.{WritesPlane, answers_to, tables_after}

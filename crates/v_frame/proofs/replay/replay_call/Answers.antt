@@ -1,4 +1,4 @@
--- What the call does to the table of its plane, it does to the tables of the frame.
+-- The effect of the call on the table of its plane is its effect on the tables of the frame.
 use Rattle.std.proofs.Common.{rules, sym, ◌∙◌, ap}
 use Rattle.std.proofs.lemmas.Result.{IfOk-weaker, on_ok_weaker}
 use Rattle.v_frame.proofs.PlaneCalls.{found, reply_there, tables_there, others_stay}

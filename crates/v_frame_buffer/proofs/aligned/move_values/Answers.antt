@@ -1,4 +1,4 @@
--- The next entry is moved out, and those ahead stay as they were.
+-- The next entry is moved out, and the entries after it are unchanged.
 use Rattle.std.proofs.Common.{rules, ℕ, suc, ◌≡◌, List, [], ◌∷◌, ◌++◌, ◌+◌, ◌<◌, ◌≤◌, All, Option, Some, IsSome, map}
 use Rattle.std.proofs.Common.{drop, length, get_or, slice_set, subst, sym, ap, ◌∙◌, arith, append-nil}
 use Rattle.std.proofs.lemmas.List.{drop_all, drop_more, drop-set-lt, map-append, append_assoc}

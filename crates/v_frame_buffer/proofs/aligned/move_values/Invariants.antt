@@ -1,4 +1,5 @@
--- The values so far and the entries ahead are the entries, those ahead have values, and there is room for them.
+-- The values so far and the entries ahead are all entries. The entries ahead have values, and there is memory for
+-- them.
 use Rattle.std.proofs.Common.{◌≡◌, ◌+◌, ◌++◌, All, IsSome, length, map, drop, Some}
 use Rattle.v_frame_buffer.proofs.aligned.move_values.Given as goal
 

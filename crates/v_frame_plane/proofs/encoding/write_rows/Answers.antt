@@ -1,4 +1,4 @@
--- The row of the source makes one more row of the buffer, and then its last.
+-- A step of the loop writes one more row of the buffer from a row of the source, up to the last.
 use Rattle.std.proofs.Common.{◌≡◌, ◌+◌, ◌-◌, ◌*◌, ◌<◌, length, drop, map, Some, slice_get, ◌∙◌, arith, length-take-le}
 use Rattle.std.proofs.Common.{length-drop, refl}
 use Rattle.std.proofs.lemmas.List.{length-map}

@@ -1,4 +1,4 @@
--- The rows so far are made of those of the source, and all else is as it was.
+-- The rows so far come from the rows of the source, and everything else is unchanged.
 use Rattle.std.proofs.Common.{map}
 use Rattle.v_frame_raster.proofs.tables.StridedWrites.{WrittenBelow}
 use Rattle.v_frame_plane.proofs.encoding.write_rows.Given as goal

@@ -1,5 +1,5 @@
--- `dropped_pixels_keep_their_values` runs nothing. That an iterator which is dropped has as final values what it shows
--- is a lemma. Assumes `Logic`.
+-- `dropped_pixels_keep_their_values` executes nothing. A lemma shows that the final values of a dropped iterator are
+-- its current pixels. Assumes `Logic`.
 use Rattle.v_frame_buffer.proofs.Steps.{[], ◌∷◌, param, layouts, a_type, ‵, ◌$◌, ◌∵◌, !, qed, assume, done, each, use1}
 use Rattle.v_frame_plane.specs.Dropped.{DroppedPixelsKeepTheirValues}
 use Rattle.v_frame_plane.specs.PixelsLeft.{pixels_left}

@@ -1,4 +1,4 @@
--- `held_rows_are_the_table` runs nothing. What it says are two lemmas. Assumes `Logic`.
+-- `held_rows_are_the_table` executes nothing. Two lemmas show its contract. Assumes `Logic`.
 use Rattle.v_frame_buffer.proofs.Steps.{[], ◌∷◌, param, layouts, a_type, ‵, ◌$◌, ◌∵◌, !, qed, assume, done, each, use1}
 use Rattle.v_frame_buffer.proofs.Steps.{fjoin, use0, Ura, Logic, RattleType, ent, emp, sem}
 use Rattle.v_frame_plane.specs.Dropped.{DroppedRowsKeepTheirPixels, RowsAreHeld}

@@ -1,4 +1,4 @@
--- Both copies leave the same table, border and geometry, which determine the buffer.
+-- Both copies leave equal tables, borders and geometries, which determine the buffer.
 use Rattle.std.proofs.Common.{ℕ, ◌≡◌, ◌*◌, ◌≤◌, length, ap, ◌∙◌, sym, arith}
 use Rattle.v_frame_raster.specs.Geometry.{alloc_size_of, usize_max}
 use Rattle.v_frame_raster.specs.Table.{width_of, height_of}

@@ -1,4 +1,4 @@
--- The rows so far are the bytes of those of the source, and all else is as it was.
+-- The rows so far are the bytes of the rows of the source, and everything else is unchanged.
 use Rattle.std.proofs.Common.{map}
 use Rattle.v_frame_raster.specs.Pixel.{bytes_of_pixels}
 use Rattle.v_frame_raster.proofs.tables.StridedWrites.{WrittenBelow}

@@ -1,4 +1,4 @@
--- The lanes are the means of blocks of four.
+-- The lanes are the means of squares of four pixels.
 use Rattle.std.proofs.Common.{arith, w8}
 use Rattle.std.proofs.lemmas.Grind.{common_steps}
 use Rattle.v_frame_raster.proofs.HalfLanes.{halved_lanes}

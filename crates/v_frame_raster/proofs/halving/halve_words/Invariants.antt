@@ -1,4 +1,4 @@
--- The pixels so far are those of the fronts so far.
+-- The pixels so far are the halves of the fronts so far.
 use Rattle.std.proofs.Common.{◌*◌}
 use Rattle.v_frame_raster.specs.Pixel.{two_bytes}
 use Rattle.v_frame_raster.proofs.HalfRows.{HalvedUpTo}

@@ -4,7 +4,7 @@ use Rattle.std.proofs.Math.Nat.{pow-le-pow_right}
 use Rattle.std.proofs.lemmas.Bool.{cases_lt}
 use Rattle.v_frame_raster.proofs.laws.depths_fit.Goals as goal
 
--- for one byte, and for two
+-- For one byte, and for two.
 of_bytes : (bytes depth : ℕ) → 0 < bytes → bytes < 3 → depth ≤ 8 * bytes → 2 ^ depth ≤ 256 ^ bytes
 of_bytes bytes depth some few fits =
     elim (cases_lt bytes 2) [

@@ -1,4 +1,4 @@
--- The bytes of a value give that value, and one value is one pixel's.
+-- The bytes of a value determine the value, and the value determines the pixel.
 use Rattle.std.proofs.Common.{◌∙◌, ap}
 use Rattle.v_frame_raster.specs.Pixel.{value_of_bytes}
 use Rattle.v_frame_raster.proofs.PixelBytes.{value_of_bytes-bytes_of}

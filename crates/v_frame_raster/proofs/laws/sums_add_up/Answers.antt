@@ -1,4 +1,4 @@
--- Sums over pairs add up over parts, and over rows.
+-- Sums over pairs are totals of sums over parts, and of sums over rows.
 use Rattle.std.specs.Int.{abs_diff}
 use Rattle.v_frame_raster.specs.PixelRows.{squared_error}
 use Rattle.v_frame_raster.proofs.SumsOfPairs.{sum_of_pairs-adds_up}

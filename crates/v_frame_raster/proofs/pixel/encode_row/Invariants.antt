@@ -1,4 +1,4 @@
--- The bytes of the first pixels stand in front.
+-- The bytes of the first pixels are at the front.
 use Rattle.std.proofs.Common.{◌≡◌, ◌*◌, take}
 use Rattle.v_frame_raster.specs.Pixel.{bytes_of_pixels}
 use Rattle.v_frame_raster.proofs.pixel.encode_row.Given as goal

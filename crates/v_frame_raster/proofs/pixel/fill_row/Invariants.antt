@@ -1,4 +1,4 @@
--- The pixels so far are the one.
+-- The pixels so far have the given value.
 use Rattle.std.proofs.Common.{◌≡◌, length, replicate, take}
 use Rattle.v_frame_raster.proofs.pixel.fill_row.Given as goal
 

@@ -1,4 +1,4 @@
--- One more eight, and what the lanes add up to.
+-- One more group of eight pixels, and the total of the lanes.
 use Rattle.std.proofs.Common.{arith, lit<, ◌≡◌, ◌/◌, length, w16, w64}
 use Rattle.v_frame_raster.specs.PixelRows.{squared_error}
 use Rattle.v_frame_raster.proofs.LaneSums.{lanes-add_up, lanes_hold-more}

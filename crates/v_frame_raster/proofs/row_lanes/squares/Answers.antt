@@ -1,4 +1,4 @@
--- The lanes are squares of differences, which fit 32 bits.
+-- The lanes are squared differences, which fit into 32 bits.
 use Rattle.std.proofs.Common.{w16, w64, lit<}
 use Rattle.v_frame_raster.proofs.RowLanes.{widened_squares}
 use Rattle.v_frame_raster.proofs.row_lanes.squares.Goals as goal

@@ -1,4 +1,4 @@
--- The lanes are squares of differences, and their sum fits.
+-- The lanes are squared differences, and their sum fits.
 use Rattle.std.proofs.Common.{arith, w8, w32, ◌∙◌, lit<}
 use Rattle.v_frame_raster.proofs.RowLanes.{squared_block}
 use Rattle.v_frame_raster.proofs.row_sums.squared_of_bytes.Goals as goal

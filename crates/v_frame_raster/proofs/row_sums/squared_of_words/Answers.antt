@@ -1,4 +1,4 @@
--- The lanes are squares of differences, and their sum fits.
+-- The lanes are squared differences, and their sum fits.
 use Rattle.std.proofs.Common.{arith, w16, w64, lit<}
 use Rattle.v_frame_raster.proofs.RowLanes.{wide_squared_block}
 use Rattle.v_frame_raster.proofs.row_sums.squared_of_words.Goals as goal

@@ -1,4 +1,4 @@
--- One more block, one more pair, and all.
+-- One more block, one more pair, and the whole sum.
 use Rattle.std.proofs.Common.{lit<, arith}
 use Rattle.std.proofs.lemmas.Grind.{common_steps}
 use Rattle.v_frame_raster.proofs.SumsOfPairs.{sums_up_to-piece_more}

@@ -1,10 +1,10 @@
--- Rows of these widths are all of themselves.
+-- A row of one of these widths is a single block.
 use Rattle.std.proofs.Common.{ℕ, ◌≡◌, List, length, take, ◌∙◌, arith}
 use Rattle.std.specs.Prelude.{sum_by, zip}
 use Rattle.std.proofs.lemmas.List.{take_all}
 use Rattle.v_frame_raster.proofs.row_sums.sum_over_rows.Goals as goal
 
--- what the first pixels add, where there are no more
+-- The sum over the first pixels is the whole sum if there are no further pixels.
 of_all : {T : Type 0} (of : T × T → ℕ) (n sum : ℕ) (xs ys : List T) → length xs ≡ n → length xs ≡ length ys
     → sum ≡ sum_by of (zip (take n xs) (take n ys)) → sum ≡ sum_by of (zip xs ys)
 of_all of n sum xs ys long same is =

@@ -1,4 +1,4 @@
-//! Frames that are built: the sizes of their planes, and what these hold.
+//! Tests of frames that can be built: the sizes and the contents of their planes.
 
 use crate::tests::support::checks::{Test, must, must_have, same, same_at};
 use crate::tests::support::frames::{blank_plane, built, mark, padded};
@@ -7,13 +7,13 @@ use v_frame::chroma::ChromaSubsampling::{self, Monochrome, Yuv411, Yuv420, Yuv42
 use v_frame::pixel::Pixel;
 use v_frame::plane::Plane;
 
-/// A width, a height, a format, a depth, and paddings left, right, top and bottom.
+/// A width, a height, a format, a bit depth, and the paddings left, right, top and bottom.
 pub type Shape = ((usize, usize), ChromaSubsampling, u8, [usize; 4]);
 
 /// A frame, and the size of its chroma planes.
 type Built = (Shape, Option<(usize, usize)>);
 
-/// Frames of bytes.
+/// One-byte frames.
 static BYTES: [Built; 10] = [
     (((1920, 1080), Yuv420, 8, [0; 4]), Some((960, 540))),
     (((1920, 1080), Yuv422, 8, [0; 4]), Some((960, 1080))),
@@ -30,7 +30,7 @@ static BYTES: [Built; 10] = [
     (((2, 2), Yuv420, 8, [0; 4]), Some((1, 1))),
 ];
 
-/// Frames of words.
+/// Two-byte frames.
 static WORDS: [Built; 9] = [
     (((640, 480), Yuv420, 9, [0; 4]), Some((320, 240))),
     (((640, 480), Yuv420, 10, [0; 4]), Some((320, 240))),
@@ -43,7 +43,7 @@ static WORDS: [Built; 9] = [
     (((3840, 2160), Yuv420, 10, [0; 4]), Some((1920, 1080))),
 ];
 
-/// Returns the size of a plane, where the plane is there.
+/// Returns the size of a plane, or `None` if there is no plane.
 fn size_of<T: Pixel>(plane: Option<&Plane<T>>) -> Option<(usize, usize)> {
     match plane {
         Some(plane) => Some((plane.width(), plane.height())),
@@ -51,7 +51,7 @@ fn size_of<T: Pixel>(plane: Option<&Plane<T>>) -> Option<(usize, usize)> {
     }
 }
 
-/// Stops the test where one of these frames is not built as asked.
+/// Fails the test unless each of these frames is built as requested.
 fn check_builds<T: Pixel>(rt: &impl Test, cases: &[Built]) {
     for (number, ((size, format, depth, padding), chroma)) in cases.iter().enumerate() {
         let frame = built::<T>(rt, padded(*size, *format, *depth, *padding));
@@ -73,7 +73,7 @@ fn chroma_planes_have_the_size_of_the_format(rt: HostRuntime) {
     check_builds::<u16>(&rt, &WORDS);
 }
 
-/// Returns the first pixel of a plane, where the plane is there.
+/// Returns the first pixel of a plane, or `None` if there is no plane.
 fn first_of(plane: Option<&Plane<u8>>) -> Option<u8> {
     match plane {
         Some(plane) => plane.pixel(0, 0),
@@ -105,10 +105,10 @@ fn a_mark_in_each_plane(rt: HostRuntime) {
 /// The numbers of a geometry, and a buffer.
 pub type Layout<'a, T> = ([usize; 9], &'a [T]);
 
-/// A frame, and the layouts of luma and of both chroma planes.
+/// A frame, and the layouts of its luma plane and of its chroma planes.
 pub type LaidOut<'a, T> = (Shape, Layout<'a, T>, Layout<'a, T>);
 
-/// Padded frames.
+/// Frames with padding.
 static PADDED: [LaidOut<'static, u8>; 2] = [
     (
         ((4, 2), Yuv420, 8, [2, 2, 2, 0]),
@@ -122,14 +122,14 @@ static PADDED: [LaidOut<'static, u8>; 2] = [
     ),
 ];
 
-/// A frame of words.
+/// A two-byte frame.
 static HALVED: [LaidOut<'static, u16>; 1] = [(
     ((2, 2), Yuv422, 16, [0; 4]),
     ([2, 2, 2, 0, 0, 0, 0, 1, 1], &[0; 4]),
     ([1, 2, 1, 0, 0, 0, 0, 2, 1], &[0; 2]),
 )];
 
-/// Stops the test where a plane is not there, or has another layout.
+/// Fails the test unless a plane exists and has the expected layout.
 fn must_lie<T: Pixel>(
     rt: &impl Test,
     plane: Option<&Plane<T>>,
@@ -143,7 +143,7 @@ fn must_lie<T: Pixel>(
     same_at(rt, found, Some(wanted), number);
 }
 
-/// Stops the test where a frame is built with a luma plane or a chroma plane of another layout.
+/// Fails the test unless the planes of a new frame have the expected layouts.
 pub fn check_layout<T: Pixel>(
     rt: &impl Test,
     number: usize,

@@ -1,4 +1,4 @@
-//! Frames cloned.
+//! Tests of cloned frames.
 
 use crate::tests::support::checks::same;
 use crate::tests::support::frames::{built, padded};

@@ -1,9 +1,9 @@
-//! Ratios of the five formats, and the sizes that they give chroma planes.
+//! Tests of the subsampling ratios of the five formats, and of the chroma sizes that follow from them.
 
 use crate::tests::support::checks::same_at;
 use v_frame::chroma::ChromaSubsampling::{self, Monochrome, Yuv411, Yuv420, Yuv422, Yuv444};
 
-/// The formats, and the ratios of their chroma.
+/// The formats with their subsampling ratios.
 static RATIOS: [(ChromaSubsampling, Option<(u8, u8)>); 5] = [
     (Yuv420, Some((2, 2))),
     (Yuv422, Some((2, 1))),
@@ -12,7 +12,7 @@ static RATIOS: [(ChromaSubsampling, Option<(u8, u8)>); 5] = [
     (Monochrome, None),
 ];
 
-/// Formats, sizes of luma, and sizes of chroma.
+/// Formats, luma sizes and chroma sizes.
 static SIZES: [(ChromaSubsampling, (usize, usize), Option<(usize, usize)>); 19] = [
     (Yuv420, (1920, 1080), Some((960, 540))),
     (Yuv422, (1920, 1080), Some((960, 1080))),

@@ -1,4 +1,4 @@
-//! Frames that are not built, and why.
+//! Tests of frames that cannot be built, and of the errors.
 
 use crate::tests::support::checks::Test;
 use crate::tests::support::frames::padded;
@@ -6,10 +6,10 @@ use crate::tests::support::texts::must_show;
 use v_frame::chroma::ChromaSubsampling::{self, Monochrome, Yuv411, Yuv420, Yuv422, Yuv444};
 use v_frame::pixel::Pixel;
 
-/// A width, a height, a format, a depth, and paddings left, right, top and bottom.
+/// A width, a height, a format, a bit depth, and the paddings left, right, top and bottom.
 type Shape = ((usize, usize), ChromaSubsampling, u8, [usize; 4]);
 
-/// Frames of bytes that are not built and those that are, and the debug text of the refusal.
+/// One-byte frames with the debug text of the build error, or `None` if the frame can be built.
 static BYTES: [(Shape, &str); 18] = [
     (((0, 1080), Yuv420, 8, [0; 4]), SIZE),
     (((1921, 1080), Yuv420, 8, [0; 4]), SIZE),
@@ -34,16 +34,16 @@ static BYTES: [(Shape, &str); 18] = [
     ),
 ];
 
-/// Refused for the size or a padding.
+/// The error for a size or a padding.
 const SIZE: &str = "Some(UnsupportedResolution)";
 
-/// Refused for a depth of 7.
+/// The error for a bit depth of 7.
 const SEVEN: &str = "Some(UnsupportedBitDepth { found: 7 })";
 
-/// Refused for the type of the pixels.
+/// The error for the pixel type.
 const TYPE: &str = "Some(DataTypeMismatch)";
 
-/// Frames of words that are not built.
+/// Two-byte frames that cannot be built, with the debug text of the error.
 static WORDS: [(Shape, &str); 3] = [
     (((1920, 1080), Yuv420, 8, [0; 4]), TYPE),
     (
@@ -56,7 +56,7 @@ static WORDS: [(Shape, &str); 3] = [
     ),
 ];
 
-/// Stops the test where a frame is refused for another reason, or is built where there is one.
+/// Fails the test unless building each frame gives the expected error, or none.
 fn check_refusals<T: Pixel>(rt: &impl Test, cases: &[(Shape, &str)]) {
     for ((size, format, depth, padding), wanted) in cases {
         let builder = padded(*size, *format, *depth, *padding);

@@ -1,4 +1,4 @@
-//! How often a counted reader or writer calls the one that it was given.
+//! Tests of the number of calls that a counted reader or writer makes to its inner reader or writer.
 
 use crate::counted::Counted;
 use crate::planar::write_frame;
@@ -9,10 +9,11 @@ use crate::tests::support::texts::must_show;
 use crate::tests::support::watched::Habit::Fails;
 use crate::tests::support::watched::{calls_of, must_have_taken, watched_writer};
 
-/// Bytes, how many of them a call takes, and the calls of `write`, the empty ones and the failures after it.
+/// Bytes to write, the number of bytes that the call takes, and the numbers of `write` calls, of empty ones and of failures
+/// after it.
 type Call = (&'static [u8], Option<usize>, usize, usize, u64);
 
-/// Calls of a writer that takes two bytes each time, and fails at the third.
+/// Calls of a writer that takes two bytes each time, and fails at the third call.
 static CALLS: [Call; 3] = [
     (&[1, 2, 3], Some(2), 1, 0, 0),
     (&[], Some(0), 2, 1, 0),
@@ -34,11 +35,11 @@ fn a_write_is_one_call_and_no_flush(rt: HostRuntime) {
     must_have_taken(rt, &out, (1, &[1, 2]), 4);
 }
 
-/// How many bytes a call takes at most, how many calls take some before one fails, the answer to writing 1 to 5, the calls,
-/// the failures, and what is taken.
+/// The largest number of bytes per call, the number of calls before one fails, the expected result of writing the bytes 1 to 5,
+/// the number of calls, the number of failures, and the bytes that the writer takes.
 type AllWritten = (usize, usize, &'static str, usize, u64, &'static [u8]);
 
-/// Writers that take all of five bytes, and that do not.
+/// Writers that take all five bytes, and writers that do not.
 static ALL: [AllWritten; 5] = [
     (2, 64, "Ok(())", 3, 0, &[1, 2, 3, 4, 5]),
     (9, 64, "Ok(())", 1, 0, &[1, 2, 3, 4, 5]),
@@ -73,8 +74,8 @@ fn a_frame_is_written_without_a_flush_and_without_an_empty_write(rt: HostRuntime
     drop(frame);
 }
 
-/// Stops the test where a read gives another count of bytes, is made by another number of calls, or leaves others in the
-/// buffer.
+/// Fails the test unless a read returns the expected number of bytes, is the expected number of calls, and leaves the expected
+/// bytes in the buffer.
 fn check_read(
     rt: &impl Test,
     reader: &mut Counted<Pieces<'_>>,

@@ -1,4 +1,4 @@
-//! Frames that are read: whole, in pieces, and not to their end.
+//! Tests of frames that are read: in one call, in pieces, and incompletely.
 
 use crate::counted::Counted;
 use crate::planar::read_frame;
@@ -12,7 +12,7 @@ use v_frame::chroma::ChromaSubsampling::Yuv420;
 use v_frame::frame::Frame;
 use v_frame::pixel::Pixel;
 
-/// What is answered to reads of six bytes, where there are seven.
+/// The expected results of reading six bytes at a time from a stream of seven bytes.
 static ANSWERS: [&str; 3] = [
     "Ok(true)",
     "Err(Truncated { expected: 6, found: 1 })",
@@ -35,8 +35,8 @@ fn a_frame_a_rest_and_the_end(rt: HostRuntime) {
     drop(frame);
 }
 
-/// A reader over a few of the bytes 1 to 7, which gives at most so many bytes at each of so many calls and then fails: what
-/// a read of six bytes answers, the failures, and the bytes that are left.
+/// Some of the bytes 1 to 7, the number of bytes per call, the number of calls before the reader fails, the expected result of
+/// reading six bytes, the number of failures, and the number of bytes that are not read.
 type Piecewise = (&'static [u8], usize, usize, &'static str, u64, usize);
 
 /// Reads in pieces, some of which end too early.
@@ -58,8 +58,8 @@ static PIECES: [Piecewise; 8] = [
     (&[1, 2, 3, 4, 5, 6], 1, 5, "Err(Read)", 1, 1),
 ];
 
-/// Stops the test where a read in pieces into a frame of these bytes answers anything else, or changes a frame that it does
-/// not read whole.
+/// Fails the test unless a read in pieces gives the expected result. The frame holds `before` at first, and must be unchanged
+/// unless it is read completely.
 fn check_pieces(rt: &impl Test, number: usize, case: &Piecewise, before: [u8; 6]) {
     let (bytes, most, calls, answer, failures, left) = case;
     let mut frame = six_bytes(rt, before);
@@ -99,7 +99,7 @@ fn borders_are_kept(rt: HostRuntime) {
     must_show_rows(rt, &luma(frame), BORDERED, &READ_IN_200);
 }
 
-/// Stops the test where the bytes 1 to 12 are not read so that the planes hold these pixels, and so many bytes are left.
+/// Fails the test unless reading the bytes 1 to 12 fills the planes with these pixels, and `left` bytes are not read.
 fn check_read<T: Pixel>(
     rt: &impl Test,
     mut frame: Frame<T>,

@@ -1,4 +1,4 @@
-//! Frames that are written: whole, in pieces, and not to their end.
+//! Tests of frames that are written: in one call, in pieces, and incompletely.
 
 use crate::counted::Counted;
 use crate::planar::write_frame;
@@ -12,11 +12,12 @@ use v_frame::chroma::ChromaSubsampling::Monochrome;
 use v_frame::frame::Frame;
 use v_frame::pixel::Pixel;
 
-/// How many calls take a byte each, what the writer does then, the answer, the failures, and the bytes that are taken.
+/// The number of calls that each take one byte, the habit of the writer afterwards, the expected result, the number of
+/// failures, and the bytes that the writer takes.
 type Written = (usize, Habit, &'static str, u64, &'static [u8]);
 
-/// Stops the test where a frame is not written to memory as these bytes, or a slow writer is answered otherwise, takes other
-/// bytes, or fails more often.
+/// Fails the test unless a frame is written to memory as `bytes`, and unless each slow writer gives the expected result, takes
+/// the expected bytes and fails the expected number of times.
 fn check_writes<T: Pixel>(rt: &impl Test, frame: Frame<T>, bytes: &[u8], cases: &[Written]) {
     let mut out = Counted::new(Vec::new(rt.alloc()));
     same(rt, write_frame(&mut out, &frame), Ok(()));
@@ -30,14 +31,14 @@ fn check_writes<T: Pixel>(rt: &impl Test, frame: Frame<T>, bytes: &[u8], cases: 
     drop(frame);
 }
 
-/// Slow writers of two words.
+/// Slow writers of two two-byte pixels.
 static WORDS: [Written; 3] = [
     (9, Fails, "Ok(())", 0, &[2, 1, 4, 3]),
     (0, Fails, "Err(Write)", 1, &[]),
     (3, Fails, "Err(Write)", 1, &[2, 1, 4]),
 ];
 
-/// Writers of six bytes that take nothing at the first call, and at the fourth.
+/// Writers of six bytes that take no bytes at the first call or at the fourth call.
 static SIX: [Written; 2] = [
     (0, TakesNone, "Err(WriteZero)", 0, &[]),
     (3, TakesNone, "Err(WriteZero)", 0, &[1, 2, 3]),

@@ -1,4 +1,4 @@
-//! Copies of bytes into a plane, packed and with a stride.
+//! Tests of copies of bytes into a plane, packed and with a stride.
 
 use crate::tests::support::buffers::{expected_buffer, must_hold, must_show_rows};
 use crate::tests::support::bytes::{stepped, stepped_words};
@@ -8,10 +8,10 @@ use crate::tests::support::texts::must_show;
 use v_frame::pixel::Pixel;
 use v_frame::plane::Plane;
 
-/// A copy: the source, its stride, the debug text of the answer, and the buffer after it.
+/// A copy: the source, its stride, the debug text of the expected result, and the buffer after the copy.
 type Copied<'a, T> = (&'a [u8], usize, &'a str, &'a [T]);
 
-/// Stops the test where one of these copies into a plane, one after the other, answers or leaves anything else.
+/// Fails the test unless each of these copies into a plane, one after another, gives the expected result and buffer.
 fn check_copies<T: Pixel>(rt: &impl Test, plane: &mut Plane<T>, copies: &[Copied<'_, T>]) {
     for (source, stride, answer, after) in copies {
         let copied = plane.copy_from_u8_slice_with_stride(*source, *stride);
@@ -20,17 +20,17 @@ fn check_copies<T: Pixel>(rt: &impl Test, plane: &mut Plane<T>, copies: &[Copied
     }
 }
 
-/// The pixels 1 to 6 in a numbered border.
+/// The pixels 1 to 6 in a border of numbered entries.
 const BEFORE: [u8; 18] = [
     100, 101, 102, 103, 104, 105, 106, 1, 2, 3, 110, 111, 112, 4, 5, 6, 116, 117,
 ];
 
-/// The pixels 10 to 60 in the same.
+/// The pixels 10 to 60 in the same border.
 const AFTER: [u8; 18] = [
     100, 101, 102, 103, 104, 105, 106, 10, 20, 30, 110, 111, 112, 40, 50, 60, 116, 117,
 ];
 
-/// Two rows of three bytes, each with a tail of two.
+/// Two rows of three bytes, each with a tail of two bytes.
 static TAILS: [Copied<'static, u8>; 2] = [
     (
         &[10, 20, 30, 99, 99, 40, 50, 60],
@@ -46,7 +46,7 @@ static TAILS: [Copied<'static, u8>; 2] = [
     ),
 ];
 
-/// Strides and lengths for five bytes by two.
+/// Strides and lengths for a plane of five by two bytes.
 static FIVE: [Copied<'static, u8>; 5] = [
     (
         &[1; 8],
@@ -70,7 +70,7 @@ static FIVE: [Copied<'static, u8>; 5] = [
     (&[2; 12], 6, "Ok(())", &[2; 10]),
 ];
 
-/// Strides whose length for two rows no `usize` holds, and one below.
+/// Strides for which the length of two rows does not fit into a `usize`, and the largest stride for which it does.
 static LARGEST: [Copied<'static, u8>; 3] = [
     (
         &[1, 2, 3, 4],
@@ -92,7 +92,7 @@ static LARGEST: [Copied<'static, u8>; 3] = [
     ),
 ];
 
-/// One byte too few in each of two rows of two bytes.
+/// One byte too few for each row of two by two bytes.
 static SQUARE: [Copied<'static, u8>; 1] = [(
     &[1; 4],
     3,
@@ -111,7 +111,7 @@ fn bytes_are_copied_without_their_tails_or_refused(rt: HostRuntime) {
     check_copies(rt, &mut blank_plane(rt, (2, 2, [0; 4])), &SQUARE);
 }
 
-/// Strides in bytes for two words by two.
+/// Strides in bytes for a plane of two by two two-byte pixels.
 static WORDS: [Copied<'static, u16>; 5] = [
     (
         &[2, 1, 4, 3, 255, 255],
@@ -145,7 +145,7 @@ static WORDS: [Copied<'static, u16>; 5] = [
     ),
 ];
 
-/// Two words by two, with a column to the left and a row below.
+/// Two by two two-byte pixels, with a border column to the left and a border row below.
 const PACKED: [u16; 9] = [
     0xA100, 0x0102, 0x0304, 0xA103, 0x0506, 0x0708, 0xA106, 0xA107, 0xA108,
 ];
@@ -164,7 +164,8 @@ fn words_are_copied_packed_and_by_strides_in_bytes(rt: HostRuntime) {
     must_have(rt, &plane, &PACKED);
 }
 
-/// The widths of planes of words and the strides of two rows for them, with the last pixel of the second.
+/// The widths of planes of two-byte pixels, the strides of sources with two rows for them, and the last pixel of the second
+/// row.
 static WIDTHS: [(usize, usize, u16); 5] = [
     (1, 3, 0x2720),
     (15, 31, 0xEBE4),
@@ -173,8 +174,8 @@ static WIDTHS: [(usize, usize, u16); 5] = [
     (33, 67, 0xE7E0),
 ];
 
-/// Copies two rows of so many bytes into a plane, which begin at 1 and 32 and grow by 7. Stops the test where the first
-/// pixel of each row is not that of its bytes, or the last one is not this.
+/// Copies two rows of `stride` bytes into a plane. Their first bytes are 1 and 32, and each further byte is larger by 7. Fails
+/// the test unless the first pixel of each row comes from its bytes, and the last pixel is `last`.
 fn copy_two_rows(
     rt: &impl Test,
     plane: &mut Plane<u16>,

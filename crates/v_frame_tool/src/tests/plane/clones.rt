@@ -1,4 +1,4 @@
-//! Planes cloned, and filled entry by entry.
+//! Tests of planes that are cloned, and of planes that are filled one entry at a time.
 
 use crate::tests::support::buffers::NINE;
 use crate::tests::support::checks::{must, must_have, same};

@@ -1,11 +1,11 @@
-//! Packed copies of pixels into a plane.
+//! Tests of copies of packed pixels into a plane.
 
 use crate::tests::support::buffers::{COUNTED, must_show_rows};
 use crate::tests::support::checks::{must_have, same};
 use crate::tests::support::frames::{BORDERED, plane_of};
 use crate::tests::support::texts::must_show;
 
-/// Copies of another length than six pixels, and their answers.
+/// Sources whose length is not six pixels, with the expected errors.
 static REFUSED: [(&[u8], &str); 3] = [
     (
         &[1, 2, 3, 4, 5],

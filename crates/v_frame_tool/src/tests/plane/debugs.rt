@@ -1,11 +1,11 @@
-//! The debug texts of planes and of frames.
+//! Tests of the debug output of planes and of frames.
 
 use crate::tests::support::buffers::NINE;
 use crate::tests::support::frames::{Layout, built, padded, plane_of, with_buffer};
 use crate::tests::support::texts::must_show;
 use v_frame::chroma::ChromaSubsampling::Yuv422;
 
-/// Layouts and buffers, and what planes of them show.
+/// Layouts and buffers, with the expected debug output of their planes.
 static PLANES: [(Layout, &[u8], &str); 3] = [
     (
         (12, 1, [0, 0, 0, 0]),
@@ -27,13 +27,13 @@ static PLANES: [(Layout, &[u8], &str); 3] = [
     ),
 ];
 
-/// What a frame of nine bytes shows.
+/// The expected debug output of a frame of nine bytes.
 const NINE_SHOWN: &str =
     "Frame { y_plane: Plane { data: [0, 1, 2, 3, 4, ..], geometry: PlaneGeometry { width: 3, height: 3, stride: 3, \
      pad_left: 0, pad_right: 0, pad_top: 0, pad_bottom: 0, subsampling_x: 1, subsampling_y: 1 } }, \
      u_plane: None, v_plane: None, subsampling: Monochrome, bit_depth: 8 }";
 
-/// What a frame of two pixels in one row shows, whose chroma planes have one pixel.
+/// The expected debug output of a frame of two pixels in one row, whose chroma planes have one pixel.
 const HALVED: &str =
     "Frame { y_plane: Plane { data: [0, 0], geometry: PlaneGeometry { width: 2, height: 1, stride: 2, \
      pad_left: 0, pad_right: 0, pad_top: 0, pad_bottom: 0, subsampling_x: 1, subsampling_y: 1 } }, \

@@ -1,4 +1,4 @@
-//! Elements whose drops are counted: each is dropped once, with its plane.
+//! Tests of elements that count how often they are dropped: each is dropped once, with its plane.
 
 use crate::tests::support::checks::{Test, same};
 use crate::tests::support::options::{vacant, values_of};
@@ -6,7 +6,7 @@ use std::cell::Cell;
 use std::rc::Rc;
 use v_frame::plane::{Plane, PlaneGeometry};
 
-/// An element that counts its drop.
+/// An element that counts how often it is dropped.
 struct Counted {
     drops: Rc<Cell<u32>>,
 }
@@ -18,7 +18,7 @@ impl Drop for Counted {
     }
 }
 
-/// Three places in one row, of which the first few hold an element.
+/// Returns a plane of three entries in one row, of which the first `count` hold an element.
 fn held(rt: &impl Test, drops: &Rc<Cell<u32>>, count: usize) -> Plane<Option<Counted>> {
     let mut plane = vacant(rt, PlaneGeometry::unpadded(3, 1, 1, 1));
     for entry in plane.data_mut().iter_mut().take(count) {

@@ -1,4 +1,4 @@
-//! Sizes and paddings of geometries: what follows from them, and what is too large.
+//! Tests of the sizes and paddings of geometries: the values that follow from them, and values that are too large.
 
 use crate::tests::support::checks::{must, same, same_at};
 use crate::tests::support::reads::numbers_of;
@@ -24,10 +24,10 @@ fn sizes_follow_from_the_paddings_and_getters_tell_what_was_given(rt: HostRuntim
     same(rt, numbers_of(&unpadded), wanted);
 }
 
-/// The stride of a geometry, and the size of its buffer where there can be one.
+/// The stride of a geometry, and the size of its buffer if a buffer can be that large.
 type Told = (usize, Option<usize>);
 
-/// What a geometry says, where it is one.
+/// Returns the stride and the buffer size of a geometry, or `None` if there is no geometry.
 fn told(geometry: Option<PlaneGeometry>) -> Option<Told> {
     match geometry {
         Some(geometry) => Some((geometry.stride(), geometry.checked_alloc_size())),
@@ -35,10 +35,10 @@ fn told(geometry: Option<PlaneGeometry>) -> Option<Told> {
     }
 }
 
-/// A width, a height, paddings left, right, top and bottom, and ratios, with what their geometry says.
+/// A width, a height, paddings left, right, top and bottom, and ratios, with the expected stride and buffer size.
 type Padded = ([usize; 6], [u8; 2], Option<Told>);
 
-/// Geometries with a border. There is none where a size or a ratio is zero, or no `usize` holds the stride.
+/// Geometries with a border. There is none if a size or a ratio is zero, or if the stride does not fit into a `usize`.
 static PADDED: [Padded; 13] = [
     ([0, 1080, 40, 30, 20, 10], [1, 1], None),
     ([1920, 0, 40, 30, 20, 10], [1, 1], None),
@@ -71,7 +71,7 @@ static PADDED: [Padded; 13] = [
     ),
 ];
 
-/// The same of planes without a border. The product of the third is two to the power of 64, and no `usize` holds it.
+/// Geometries without a border. The size of the third is two to the power of 64, which does not fit into a `usize`.
 static UNPADDED: [([usize; 2], [u8; 2], Option<Told>); 9] = [
     (
         [4611686018427387903, 1],

@@ -1,10 +1,11 @@
-//! Rows and pixels that are lent, and written once their iterator is gone.
+//! Tests of rows and pixels that are lent, and written after their iterator is dropped.
 
 use crate::tests::support::buffers::{COUNTED, IN_200, must_show_rows};
 use crate::tests::support::frames::{BORDERED, Layout, plane_of};
 use v_frame::plane::Plane;
 
-/// Writes 40 to the last row's first pixel and then 30 to the first row's last, once their iterator is gone.
+/// Writes 40 to the first pixel of the last row and then 30 to the last pixel of the first row, after their iterator is
+/// dropped.
 fn write_held_rows(plane: &mut Plane<u8>) {
     let mut rows = plane.rows_mut();
     let (first, last) = (rows.next(), rows.next_back());
@@ -21,7 +22,7 @@ fn write_held_rows(plane: &mut Plane<u8>) {
     }
 }
 
-/// Writes 9 to the last pixel and then 7 to the first, once their iterator is gone.
+/// Writes 9 to the last pixel and then 7 to the first pixel, after their iterator is dropped.
 fn write_held_pixels(plane: &mut Plane<u8>) {
     let mut pixels = plane.pixels_mut();
     let (first, last) = (pixels.next(), pixels.next_back());
@@ -34,7 +35,7 @@ fn write_held_pixels(plane: &mut Plane<u8>) {
     }
 }
 
-/// Buffers before either is written, once rows are, and once pixels are.
+/// Buffers before the writes, after the writes to rows, and after the writes to pixels.
 static HELD: [[[u8; 18]; 3]; 2] = [
     [
         IN_200,
@@ -69,8 +70,8 @@ fn held_rows_and_pixels_are_written_and_no_border(rt: HostRuntime) {
     }
 }
 
-/// Takes the last pixel, the first and the last but one, and once their iterator is gone writes 20 to the last but one, 10
-/// to the first, and then 11.
+/// Takes the last pixel, the first pixel and the last but one. After their iterator is dropped, it writes 20 to the last but
+/// one, 10 to the first, and then 11 to the first.
 fn write_two_of_three(plane: &mut Plane<u16>) {
     let mut pixels = plane.pixels_mut();
     let (_last, first, held) = (pixels.next_back(), pixels.next(), pixels.next_back());
@@ -84,10 +85,10 @@ fn write_two_of_three(plane: &mut Plane<u16>) {
     }
 }
 
-/// Two pixels by two with a column to the left and a row below.
+/// Two by two pixels with a border column to the left and a border row below.
 const WORDS: Layout = (2, 2, [1, 0, 0, 1]);
 
-/// Buffers before and after two of their words are written.
+/// Buffers before and after two of their pixels are written.
 static HELD_WORDS: [[[u16; 9]; 2]; 2] = [
     [
         [500, 1, 2, 500, 3, 4, 500, 500, 500],

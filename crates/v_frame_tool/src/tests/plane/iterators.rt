@@ -1,4 +1,4 @@
-//! Iterators over the rows, the pixels and the bytes of planes: how many items they give, and what they leave.
+//! Tests of the iterators over the rows, the pixels and the bytes of planes: the numbers of items, and the remaining items.
 
 use crate::tests::support::buffers::IN_200;
 use crate::tests::support::checks::{Test, must_have, same};
@@ -6,7 +6,7 @@ use crate::tests::support::frames::{BORDERED, blank_plane, plane_of};
 use v_frame::pixel::Pixel;
 use v_frame::plane::Plane;
 
-/// Stops the test where the bytes of a plane are not so many, or not one less after one was taken.
+/// Fails the test unless a plane has `length` bytes, of which `left` remain after one was taken.
 fn check_length<T: Pixel>(rt: &impl Test, plane: &Plane<T>, length: usize, left: usize) {
     let mut bytes = plane.byte_data();
     same(rt, bytes.len(), length);

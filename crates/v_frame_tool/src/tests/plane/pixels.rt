@@ -1,13 +1,13 @@
-//! Pixels that are read and written past the width, past the last row and far away.
+//! Tests of pixels that are read and written past the width, past the last row and past the end of the buffer.
 
 use crate::tests::support::buffers::must_show_rows;
 use crate::tests::support::checks::{must, must_have, same};
 use crate::tests::support::frames::{Layout, blank_plane, plane_of, write_pixel};
 
-/// Four pixels by three in a buffer of 40 entries.
+/// Four by three pixels in a buffer of 40 entries.
 const PADDED: Layout = (4, 3, [2, 2, 1, 1]);
 
-/// Its buffer once the first pixel after its first row is 7.
+/// The buffer after 7 is written to the entry after the first visible row.
 static WRITTEN: [u8; 40] = [
     0, 0, 0, 0, 0, 0, 0, 0, //
     0, 0, 0, 0, 0, 0, 7, 0, //

@@ -1,11 +1,11 @@
-//! Rows of bytes, decoded into rows of pixels of each length around a step of sixteen.
+//! Tests of rows of bytes that are decoded into rows of pixels, for each length around a block of sixteen.
 
 use crate::tests::support::bytes::{stepped, stepped_words};
 use crate::tests::support::checks::{Test, must, same, same_at};
 use v_frame::pixel::Pixel;
 
-/// Stops the test where a row of so many words, decoded from the bytes 48, 85 and on, has others, or what stands after it
-/// is changed.
+/// Fails the test unless a row of `count` two-byte pixels is decoded from the bytes 48, 85 and so on, and the entries after it
+/// are unchanged.
 fn check_decoded(rt: &impl Test, bytes: &[u8], count: usize) {
     let end = count.saturating_mul(2).saturating_add(1);
     let part = bytes.get(1..end).expect(rt, "so many bytes");

@@ -1,10 +1,10 @@
-//! Geometries of chroma planes: paddings are divided as sizes are, and what is odd has no half.
+//! Tests of the geometries of chroma planes: paddings are divided as sizes are, and odd values cannot be halved.
 
 use crate::tests::support::checks::{Test, same, same_at};
 use v_frame::chroma::ChromaSubsampling::{self, Monochrome, Yuv411, Yuv420, Yuv422, Yuv444};
 use v_frame::plane::{PlaneGeometry, SubsamplingError};
 
-/// The width and the height, the paddings left, right, top and bottom, and the ratios.
+/// The width and the height, the paddings left, right, top and bottom, and the subsampling ratios.
 type Shape = ([usize; 2], [usize; 4], [u8; 2]);
 
 /// Returns the geometry of this shape.
@@ -18,22 +18,22 @@ fn geometry(
     )
 }
 
-/// A padded plane whose columns, rows and paddings all have a half.
+/// A plane with padding whose sizes and paddings are all even.
 const EVEN: Shape = ([1920, 1080], [40, 30, 20, 10], [1, 1]);
 
 /// A plane with an odd padding below.
 const ODD_BELOW: Shape = ([1920, 1080], [10, 10, 40, 15], [1, 1]);
 
-/// The chroma of the padded plane in 4:2:0.
+/// The chroma planes of `EVEN` in 4:2:0.
 const HALVED: Shape = ([960, 540], [20, 15, 10, 5], [2, 2]);
 
-/// The same with a right padding that has a quarter.
+/// The shape of `HALVED`, but with a right padding that is divisible by 4.
 const QUARTERED: Shape = ([960, 540], [20, 16, 10, 5], [2, 2]);
 
-/// A plane whose ratios are set already.
+/// A plane whose ratios are already set.
 const SMALL: Shape = ([8, 8], [0; 4], [2, 2]);
 
-/// Planes, a format, and the chroma of it.
+/// Planes, a format, and the chroma planes for it.
 static DIVIDED: [(Shape, ChromaSubsampling, Shape); 7] = [
     (EVEN, Yuv444, EVEN),
     (EVEN, Yuv422, ([960, 1080], [20, 15, 20, 10], [2, 1])),
@@ -56,7 +56,7 @@ fn sizes_and_paddings_are_divided(rt: HostRuntime) {
     same(rt, wide.stride(), 995);
 }
 
-/// Planes, and whether each has a chroma in 4:2:0, in 4:2:2 and in 4:1:1.
+/// Planes, and whether each has chroma planes in 4:2:0, in 4:2:2 and in 4:1:1.
 static HALVES: [(Shape, [bool; 3]); 7] = [
     (EVEN, [true, true, false]),
     (([1921, 1080], [0; 4], [1, 1]), [false; 3]),

@@ -1,4 +1,4 @@
-//! Rows and pixels written in place.
+//! Tests of rows and pixels that are written in place.
 
 use crate::tests::support::buffers::must_show_rows;
 use crate::tests::support::checks::{must, must_have, same};

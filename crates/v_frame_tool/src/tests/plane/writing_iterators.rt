@@ -1,4 +1,4 @@
-//! Iterators that lend rows and pixels of a plane for writing.
+//! Tests of the iterators that lend rows and pixels of a plane for writing.
 
 use crate::tests::support::buffers::{COUNTED, IN_200, must_hold};
 use crate::tests::support::checks::{Test, must_have, same};
@@ -7,7 +7,7 @@ use crate::tests::support::frames::{
 };
 use v_frame::plane::Plane;
 
-/// What a lent pixel holds, which is replaced by this value.
+/// Replaces a lent pixel by `value`, and returns its old value.
 fn replace(pixel: Option<&mut u8>, value: u8) -> Option<u8> {
     let pixel = pixel?;
     let before = *pixel;
@@ -15,7 +15,7 @@ fn replace(pixel: Option<&mut u8>, value: u8) -> Option<u8> {
     Some(before)
 }
 
-/// Writes the numbers from 0 on, pixel after pixel.
+/// Writes the numbers from 0 on, pixel by pixel.
 fn count_up(plane: &mut Plane<u8>) {
     let mut next = 0;
     for pixel in plane.pixels_mut() {
@@ -24,8 +24,8 @@ fn count_up(plane: &mut Plane<u8>) {
     }
 }
 
-/// Three calls, of which the first and the last replace their pixel. Stops the test where they do not give the last, the
-/// first and the second pixel of six, or leave another buffer.
+/// Makes three calls, of which the first and the last replace their pixel. Fails the test unless they yield the last, the first
+/// and the second of six pixels, and leave the expected buffer.
 fn check_calls(rt: &impl Test, before: &[u8], after: &[u8]) {
     let mut plane = plane_of(rt, BORDERED, before);
     let mut pixels = plane.pixels_mut();
@@ -39,12 +39,12 @@ fn check_calls(rt: &impl Test, before: &[u8], after: &[u8]) {
     must_have(rt, &plane, after);
 }
 
-/// The pixels 1 to 6 with a 7 and a 9 in place of the second and the last, in the border of `COUNTED`.
+/// The pixels 1 to 6 with the second replaced by 7 and the last by 9, in the border of `COUNTED`.
 const WRITTEN: [u8; 18] = [
     100, 101, 102, 103, 104, 105, 106, 1, 7, 3, 110, 111, 112, 4, 5, 9, 116, 117,
 ];
 
-/// The same in the border of `IN_200`.
+/// The pixels of `WRITTEN` in the border of `IN_200`.
 const WRITTEN_IN_200: [u8; 18] = [
     200, 200, 200, 200, 200, 200, 200, 1, 7, 3, 200, 200, 200, 4, 5, 9, 200, 200,
 ];
@@ -55,7 +55,7 @@ fn a_padded_plane_is_written_call_by_call(rt: HostRuntime) {
     check_calls(&rt, &COUNTED, &WRITTEN);
 }
 
-/// Stops the test where the pixels of a numbered plane are not counted up, or its border does not stay.
+/// Fails the test unless the pixels of a numbered plane are counted up, and its border is unchanged.
 fn check_counted(rt: &impl Test, layout: Layout, wanted: &[u8]) {
     let mut plane = numbered_plane::<u8>(rt, layout);
     count_up(&mut plane);
@@ -83,8 +83,8 @@ fn filled_pixels_are_read_back_in_order_and_from_both_ends(rt: HostRuntime) {
     same(rt, past, [None; 2]);
 }
 
-/// Fills three rows, the last of them second. Stops the test where other rows are left before and, but for one, after that,
-/// others are read from both ends then, or the border does not stay.
+/// Fills three rows, the last of them second. Fails the test unless the numbers of remaining rows are as expected, the rows
+/// read from both ends have their values, and the border is unchanged.
 fn check_filled(rt: &impl Test, padding: [usize; 4]) {
     let layout = (3, 3, padding);
     let mut plane = numbered_plane::<u8>(rt, layout);

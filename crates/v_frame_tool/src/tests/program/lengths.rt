@@ -1,4 +1,4 @@
-//! Sources of every small length, and how the program calls its writer.
+//! Tests of sources of every small length, and of the calls that the program makes to its writer.
 
 use crate::fault::ToolFault;
 use crate::run::run;
@@ -13,8 +13,8 @@ static FORTY: [u8; 40] = [
     27, 28, 29, 30, 31, 32, 33, 34, 35, 36, 37, 38, 39, 40,
 ];
 
-/// Stops the test where so many pixels are answered otherwise, or are printed otherwise to a writer that takes so many bytes a
-/// call: eight are accepted, and any other number of them is refused for its length without a call of the writer.
+/// Fails the test unless a source of `length` pixels gives the expected result and output. The writer takes at most `most`
+/// bytes per call. Eight pixels are printed. Any other number is rejected, and the writer is not called.
 fn check_length(rt: &impl Test, length: usize, most: usize) {
     let mut out = watched_writer(rt.alloc(), most, 64, Fails);
     let answer = run(rt.alloc(), &mut out, FORTY.get(..length).unwrap_or(&[]));

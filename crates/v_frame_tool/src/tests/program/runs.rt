@@ -1,12 +1,12 @@
-//! The program, over writers into memory, writers that fail and writers that take little.
+//! Tests of the program with writers into memory, writers that fail, and writers that take few bytes.
 
 use crate::run::run;
 use crate::tests::support::texts::must_show;
 use crate::tests::support::watched::Habit::{self, Fails, TakesNone};
 use crate::tests::support::watched::{must_have_taken, watched_writer};
 
-/// Pixels, how many calls take a byte each, what the writer does then, what the program answers, the failures, and what is
-/// printed.
+/// The pixels, the number of calls that each take one byte, the habit of the writer afterwards, the expected result of the
+/// program, the number of failures, and the printed bytes.
 type Run = (
     &'static [u8],
     usize,
@@ -16,8 +16,8 @@ type Run = (
     &'static [u8],
 );
 
-/// Runs over eight pixels and over others to a writer that takes all, and then to writers that fail or take nothing at the
-/// first call, or at a later one.
+/// Runs with eight pixels and with other numbers of pixels to a writer that takes all bytes, and runs to writers that fail or
+/// take no bytes at the first call or at a later call.
 static RUNS: [Run; 10] = [
     (
         &[1, 2, 3, 4, 5, 6, 7, 8],

@@ -1,4 +1,4 @@
-//! The texts of errors and faults.
+//! Tests of the messages of errors and faults.
 
 use crate::fault::ToolFault;
 use crate::planar::PlanarError;
@@ -7,7 +7,7 @@ use std::alloc::AllocError;
 use v_frame::frame::FrameError;
 use v_frame::plane::CopyError;
 
-/// Why a frame was not built, and what that says.
+/// Errors of building a frame, with their messages.
 static FRAMES: [(FrameError, &str); 4] = [
     (
         FrameError::UnsupportedBitDepth { found: 7 },
@@ -24,7 +24,7 @@ static FRAMES: [(FrameError, &str); 4] = [
     (FrameError::OutOfMemory, "out of memory"),
 ];
 
-/// Why nothing was copied, and what that says.
+/// Errors of copies, with their messages.
 static COPIES: [(CopyError, &str); 2] = [
     (
         CopyError::DataLength {
@@ -42,7 +42,7 @@ static COPIES: [(CopyError, &str); 2] = [
     ),
 ];
 
-/// Why planar bytes were not read or written, and what that says.
+/// Errors of reading and writing planar bytes, with their messages.
 static PLANAR: [(PlanarError, &str); 6] = [
     (
         PlanarError::Truncated {
@@ -58,7 +58,7 @@ static PLANAR: [(PlanarError, &str); 6] = [
     (PlanarError::OutOfMemory, "out of memory"),
 ];
 
-/// Faults of the program, and what they say.
+/// Faults of the program, with their messages.
 static FAULTS: [(ToolFault, &str); 5] = [
     (
         ToolFault::Frame(FrameError::DataTypeMismatch),

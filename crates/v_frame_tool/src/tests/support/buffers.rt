@@ -1,18 +1,18 @@
-//! Buffers whose entries are numbered, so that each entry of a border has a value of its own.
+//! Buffers with numbered entries, so that each entry of a border has a different value.
 
 use crate::tests::support::checks::{Test, must, must_have, same};
 use crate::tests::support::frames::{BORDERED, Layout};
 use v_frame::pixel::Pixel;
 use v_frame::plane::Plane;
 
-/// Returns the number of the entry at a place: 100 and the place, or 0xA100 and the place where a pixel has two bytes.
+/// Returns the number of the entry at an index: 100 plus the index for pixels of one byte, 0xA100 plus the index for two bytes.
 pub fn number_at<T: Pixel>(rt: &impl Test, place: usize) -> T {
     let first = if T::BYTES == 1 { 100 } else { 0xA100 };
     let number = u16::try_from(place.saturating_add(first)).ok();
     T::try_from_u16(number.expect(rt, "a small buffer")).expect(rt, "a pixel")
 }
 
-/// Returns the buffer of a plane that has these visible pixels, row after row, and this value in its border, or numbers.
+/// Returns the buffer of a plane with these visible pixels, row by row. The border has this value, or is numbered.
 pub fn expected_buffer<T: Pixel>(
     rt: &impl Test,
     (width, height, [left, right, top, bottom]): Layout,
@@ -34,13 +34,13 @@ pub fn expected_buffer<T: Pixel>(
     buffer
 }
 
-/// Stops the test where a plane has not the numbered buffer with these visible pixels.
+/// Fails the test unless a plane has the numbered buffer with these visible pixels.
 pub fn must_hold<T: Pixel>(rt: &impl Test, plane: &Plane<T>, layout: Layout, pixels: &[T]) {
     let buffer = expected_buffer(rt, layout, None, pixels);
     must_have(rt, plane, buffer.as_slice());
 }
 
-/// Stops the test where a plane has another buffer, its rows are not those of the buffer, or there is one below.
+/// Fails the test unless a plane has this buffer, its rows are those of the buffer, and it has no further row.
 pub fn must_show_rows<T: Pixel>(
     rt: &impl Test,
     plane: &Plane<T>,
@@ -59,17 +59,17 @@ pub fn must_show_rows<T: Pixel>(
     same(rt, plane.row(height), None);
 }
 
-/// The pixels 1 to 6, three by two, in a border whose entries have a value each.
+/// The pixels 1 to 6, three by two, in a border whose entries all differ.
 pub const COUNTED: [u8; 18] = [
     100, 101, 102, 103, 104, 105, 106, 1, 2, 3, 110, 111, 112, 4, 5, 6, 116, 117,
 ];
 
-/// The same with 200 in its twelve border entries.
+/// The pixels of `COUNTED` with 200 in all twelve border entries.
 pub const IN_200: [u8; 18] = [
     200, 200, 200, 200, 200, 200, 200, 1, 2, 3, 200, 200, 200, 4, 5, 6, 200, 200,
 ];
 
-/// Three pixels by three, counted from 0.
+/// Three by three pixels, counted from 0.
 pub const NINE: [u8; 9] = [0, 1, 2, 3, 4, 5, 6, 7, 8];
 
 #[test]

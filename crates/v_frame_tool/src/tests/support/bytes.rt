@@ -1,8 +1,9 @@
-//! Bytes that grow by equal steps, and the words that they make up.
+//! Bytes that grow by equal steps, and the two-byte pixels that they encode.
 
 use crate::tests::support::checks::Test;
 
-/// Runs of so many bytes that begin with these, each byte of a run a step more than the one before.
+/// Returns a run of `count` bytes for each of `firsts`. Each run begins with this byte, and each further byte is larger by
+/// `step`.
 pub fn stepped(rt: &impl Test, firsts: &[u8], step: u8, count: usize) -> Vec<u8> {
     let mut bytes = Vec::new(rt.alloc());
     for first in firsts {
@@ -15,7 +16,7 @@ pub fn stepped(rt: &impl Test, firsts: &[u8], step: u8, count: usize) -> Vec<u8>
     bytes
 }
 
-/// Runs of so many words of such bytes, two each and the low one first.
+/// Returns a run of `count` two-byte pixels for each of `firsts`, made from bytes as in `stepped`, in little-endian order.
 pub fn stepped_words(rt: &impl Test, firsts: &[u8], step: u8, count: usize) -> Vec<u16> {
     let mut words = Vec::new(rt.alloc());
     for first in firsts {

@@ -1,4 +1,4 @@
-//! What a test has, and how it stops.
+//! The environment of a test, and the checks that fail it.
 ghost use Rattle.std.specs.Prelude.{◌≡◌, true};
 
 use std::fmt::Debug;
@@ -6,26 +6,26 @@ use std::process::Abort;
 use v_frame::pixel::Pixel;
 use v_frame::plane::Plane;
 
-/// What a test has: memory, and a way to stop.
+/// The environment of a test: memory, and a way to abort.
 pub trait Test: Abort + AllocGlobal {}
 
 impl<R: Abort + AllocGlobal> Test for R {}
 
-/// Stops the test where something does not hold.
+/// Fails the test unless `holds` is true.
 ///
-/// What `assert!` writes out is proved at each place, and takes longer than most of what it looks at.
+/// The expansion of `assert!` is proved at each call, and this takes longer than proving most of the checks themselves.
 pub fn must(rt: &impl Test, holds: bool)
     ensures { holds ≡ true }
 {
     assert!(rt; holds);
 }
 
-/// Stops the test where a value is not the one that is wanted.
+/// Fails the test unless `found` is equal to `wanted`.
 pub fn same<T: PartialEq + Debug + Drop>(rt: &impl Test, found: T, wanted: T) {
     assert!(rt; found == wanted, "found {found:?}, not {wanted:?}");
 }
 
-/// The same in the case of this number.
+/// Fails the test unless `found` is equal to `wanted`, and reports the number of the case.
 pub fn same_at<T: PartialEq + Debug + Drop>(rt: &impl Test, found: T, wanted: T, case: usize) {
     assert!(rt;
         found == wanted,
@@ -33,7 +33,7 @@ pub fn same_at<T: PartialEq + Debug + Drop>(rt: &impl Test, found: T, wanted: T,
     );
 }
 
-/// Stops the test where a plane has another buffer.
+/// Fails the test unless a plane has this buffer.
 pub fn must_have<T: Pixel>(rt: &impl Test, plane: &Plane<T>, buffer: &[T]) {
     same(rt, plane.data(), buffer);
 }

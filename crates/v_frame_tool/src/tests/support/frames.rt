@@ -1,4 +1,4 @@
-//! Frames: blank, with a buffer, and with a picture in a border.
+//! Frames that are blank, frames with a given buffer, and frames with a picture in a border.
 
 use crate::tests::support::buffers::number_at;
 use crate::tests::support::checks::{Test, must, same_at};
@@ -10,13 +10,13 @@ use v_frame::plane::Plane;
 /// The width and the height of a plane, and its paddings left, right, top and bottom.
 pub type Layout = (usize, usize, [usize; 4]);
 
-/// Three pixels by two without a border.
+/// Three by two pixels without a border.
 pub const BARE: Layout = (3, 2, [0, 0, 0, 0]);
 
-/// Three pixels by two in a buffer of 18 entries.
+/// Three by two pixels in a buffer of 18 entries.
 pub const BORDERED: Layout = (3, 2, [1, 2, 1, 0]);
 
-/// Returns a size, a format and a depth with the luma paddings left, right, top and bottom.
+/// Returns a builder with this size, format and bit depth, and with the luma paddings left, right, top and bottom.
 pub fn padded(
     (width, height): (usize, usize),
     subsampling: ChromaSubsampling,
@@ -31,18 +31,19 @@ pub fn padded(
         .luma_padding_bottom(bottom)
 }
 
-/// Returns the frame that is built so.
+/// Returns the frame that `builder` builds.
 pub fn built<T: Pixel>(rt: &impl Test, builder: FrameBuilder) -> Frame<T> {
     builder.build(rt.alloc()).expect(rt, "a frame")
 }
 
-/// Returns a luma plane of zeros alone, in the border too, of the least depth for bytes and of the greatest for words.
+/// Returns a monochrome frame of zeros, including its border. The bit depth is 8 for one-byte pixels and 16 for two-byte
+/// pixels.
 pub fn zeros<T: Pixel>(rt: &impl Test, (width, height, padding): Layout) -> Frame<T> {
     let depth = if T::BYTES == 1 { 8 } else { 16 };
     built(rt, padded((width, height), Monochrome, depth, padding))
 }
 
-/// Returns a luma plane in this buffer.
+/// Returns a monochrome frame with this buffer.
 pub fn with_buffer<T: Pixel>(rt: &impl Test, layout: Layout, buffer: &[T]) -> Frame<T> {
     let mut frame = zeros(rt, layout);
     let data = frame.y_plane.data_mut();
@@ -51,7 +52,7 @@ pub fn with_buffer<T: Pixel>(rt: &impl Test, layout: Layout, buffer: &[T]) -> Fr
     frame
 }
 
-/// Returns a luma plane whose entries are numbered, in the border too.
+/// Returns a monochrome frame with numbered entries, including its border.
 pub fn numbered<T: Pixel>(rt: &impl Test, layout: Layout) -> Frame<T> {
     let mut frame = zeros(rt, layout);
     for (place, entry) in frame.y_plane.data_mut().iter_mut().enumerate() {
@@ -65,22 +66,22 @@ pub fn luma<T: Pixel>(frame: Frame<T>) -> Plane<T> {
     frame.y_plane
 }
 
-/// Returns a plane of zeros, in the border too.
+/// Returns a plane of zeros, including its border.
 pub fn blank_plane<T: Pixel>(rt: &impl Test, layout: Layout) -> Plane<T> {
     luma(zeros(rt, layout))
 }
 
-/// Returns a plane in this buffer.
+/// Returns a plane with this buffer.
 pub fn plane_of<T: Pixel>(rt: &impl Test, layout: Layout, buffer: &[T]) -> Plane<T> {
     luma(with_buffer(rt, layout, buffer))
 }
 
-/// Returns a plane whose entries are numbered, in the border too.
+/// Returns a plane with numbered entries, including its border.
 pub fn numbered_plane<T: Pixel>(rt: &impl Test, layout: Layout) -> Plane<T> {
     luma(numbered(rt, layout))
 }
 
-/// Stops the test where the plane of this index has not this buffer, or is there where it has none.
+/// Fails the test unless the plane with this index has this buffer, or is absent if none is given.
 pub fn must_have_plane<T: Pixel>(
     rt: &impl Test,
     frame: &Frame<T>,
@@ -99,7 +100,7 @@ pub fn write_pixel<T: Pixel>(rt: &impl Test, plane: &mut Plane<T>, x: usize, y: 
     *plane.pixel_mut(x, y).expect(rt, "a pixel") = value;
 }
 
-/// Writes the first pixel of the plane of this index.
+/// Writes the first pixel of the plane with this index.
 pub fn mark<T: Pixel>(rt: &impl Test, frame: &mut Frame<T>, index: usize, value: T) {
     let plane = frame.plane_mut(index).expect(rt, "a plane");
     write_pixel(rt, plane, 0, 0, value);

@@ -1,9 +1,9 @@
-//! Planes that are filled entry by entry.
+//! Planes that are filled one entry at a time.
 
 use crate::tests::support::checks::{Test, must};
 use v_frame::plane::{Plane, PlaneGeometry};
 
-/// Returns a plane without a value anywhere.
+/// Returns a plane whose entries are all `None`.
 pub fn vacant<T: Drop>(rt: &impl Test, geometry: Option<PlaneGeometry>) -> Plane<Option<T>> {
     let geometry = geometry.expect(rt, "no geometry");
     must(rt, geometry.checked_alloc_size().is_some());
@@ -23,7 +23,7 @@ pub fn holding(
     plane
 }
 
-/// Returns the plane of the values, where each place holds one.
+/// Returns the plane of the values. Every entry must hold a value.
 pub fn values_of<T: Drop>(rt: &impl Test, plane: Plane<Option<T>>) -> Plane<T> {
     must(rt, plane.is_init());
     let values = plane.assume_init(rt.alloc()).ok();

@@ -5,7 +5,7 @@ use crate::tests::support::frames::{BARE, built, mark, padded, plane_of};
 use v_frame::chroma::ChromaSubsampling::Yuv420;
 use v_frame::frame::Frame;
 
-/// Two pixels by two in 4:2:0, which show these bytes: four of luma, and one of each chroma.
+/// Returns a 4:2:0 frame of two by two pixels that shows these bytes: four of luma, and one of each chroma plane.
 pub fn six_bytes(rt: &impl Test, bytes: [u8; 6]) -> Frame<u8> {
     let mut frame = built(rt, padded((2, 2), Yuv420, 8, [0; 4]));
     let [a, b, c, d, u, v] = bytes;
@@ -16,7 +16,7 @@ pub fn six_bytes(rt: &impl Test, bytes: [u8; 6]) -> Frame<u8> {
     frame
 }
 
-/// Such a frame without U, whose V is three pixels by two instead and shows these.
+/// Returns a frame as `six_bytes` does, but without U, and with a V plane of three by two pixels that shows `v`.
 pub fn without_u(rt: &impl Test, bytes: [u8; 6], v: [u8; 6]) -> Frame<u8> {
     let mut frame = six_bytes(rt, bytes);
     frame.u_plane = None;

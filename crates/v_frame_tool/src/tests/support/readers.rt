@@ -1,21 +1,22 @@
-//! Readers that give little, and that fail.
+//! Readers that yield few bytes, and that fail.
 
 use std::io::{self, ErrorKind, Read};
 
-/// A reader that gives a few bytes of a source at each call, and fails after as many calls.
+/// A reader that yields a few bytes of a source at each call, and fails after a number of calls.
 #[derive(Drop)]
 pub struct Pieces<'a> {
-    /// What is left of the source.
+    /// The bytes of the source that are not read yet.
     pub left: &'a [u8],
-    /// How many bytes a call gives at most.
+    /// The largest number of bytes that a call yields.
     pub most: usize,
-    /// How many calls are left.
+    /// The number of remaining calls that succeed.
     pub calls: usize,
-    /// How many calls of `read` there were.
+    /// The number of calls of `read`.
     pub reads: usize,
 }
 
-/// Returns a reader of these bytes that was not called: at most so many a call, and it fails after so many calls.
+/// Returns a reader of the bytes `left` that was not called. A call yields at most `most` bytes, and only `calls` calls
+/// succeed.
 pub fn pieces_of(left: &[u8], most: usize, calls: usize) -> Pieces<'_> {
     Pieces {
         left,

@@ -1,8 +1,8 @@
-//! What geometries say, as plain values.
+//! The numbers of geometries as plain values.
 
 use v_frame::plane::PlaneGeometry;
 
-/// Returns the size, the stride, the paddings left, right, top and bottom, and the ratios.
+/// Returns the size, the stride, the paddings left, right, top and bottom, and the subsampling ratios.
 pub fn numbers_of(geometry: &PlaneGeometry) -> [usize; 9] {
     [
         geometry.width(),

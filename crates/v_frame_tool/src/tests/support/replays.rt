@@ -1,4 +1,4 @@
-//! Calls of replays as plain data, and replays that have to answer and leave what is wanted.
+//! Calls of replays as plain data, and checks of the results and the effects of replays.
 
 use crate::tests::support::buffers::must_show_rows;
 use crate::tests::support::checks::Test;
@@ -9,20 +9,20 @@ use v_frame::pixel::Pixel;
 use v_frame::replay::{PixelDraw, RowDraw, Side, VisibleCall, replay};
 use v_frame::sequence::Sequence;
 
-/// A call of a replay: first the plane, and then what the call of that name takes.
+/// A call of a replay. The first field is the plane, and the others are the arguments of the call.
 #[derive(Drop)]
 pub enum Call<'a, T> {
     /// The width.
     Width(usize),
     /// The height.
     Height(usize),
-    /// The row at y.
+    /// The row y.
     Row(usize, usize),
-    /// The row at y, and what is written into it.
+    /// The row y, and the pixels to write into it.
     RowMut(usize, usize, &'a [Option<T>]),
     /// The pixel at x and y.
     Pixel(usize, usize, usize),
-    /// The pixel at x and y, and what is written over it.
+    /// The pixel at x and y, and its new value.
     PixelMut(usize, usize, usize, T),
     /// A copy of pixels.
     Copy(usize, &'a [T]),
@@ -34,9 +34,9 @@ pub enum Call<'a, T> {
     Pixels(usize, &'a [Side]),
     /// Bytes from these sides.
     Bytes(usize, &'a [Side]),
-    /// Rows from these sides, and what is written into each.
+    /// Rows from these sides, and the pixels to write into each.
     RowsMut(usize, &'a [(Side, &'a [Option<T>])]),
-    /// Pixels from these sides, and what is written over each.
+    /// Pixels from these sides, and the new value of each.
     PixelsMut(usize, &'a [(Side, Option<T>)]),
 }
 
@@ -45,7 +45,7 @@ fn list<T: Copy>(rt: &impl Test, items: &[T]) -> Sequence<T> {
     Sequence::from_slice(rt.alloc(), items).expect(rt, "memory")
 }
 
-/// Returns rows that are drawn, with what is written into each.
+/// Returns draws of rows, with the pixels to write into each.
 fn row_draws<T: Copy>(rt: &impl Test, draws: &[(Side, &[Option<T>])]) -> Sequence<RowDraw<T>> {
     let mut rows = Vec::new(rt.alloc());
     for (side, writes) in draws {
@@ -55,7 +55,7 @@ fn row_draws<T: Copy>(rt: &impl Test, draws: &[(Side, &[Option<T>])]) -> Sequenc
     rows.into()
 }
 
-/// Returns pixels that are drawn, with what is written over each.
+/// Returns draws of pixels, with the new value of each.
 fn pixel_draws<T: Copy>(rt: &impl Test, draws: &[(Side, Option<T>)]) -> Sequence<PixelDraw<T>> {
     let mut pixels = Vec::new(rt.alloc());
     for (side, value) in draws {
@@ -65,7 +65,7 @@ fn pixel_draws<T: Copy>(rt: &impl Test, draws: &[(Side, Option<T>)]) -> Sequence
     pixels.into()
 }
 
-/// Returns a call, as a replay takes it.
+/// Returns a call in the form that a replay takes.
 fn visible<T: Copy>(rt: &impl Test, call: &Call<'_, T>) -> VisibleCall<T> {
     match *call {
         Call::Width(plane) => VisibleCall::Width { plane },
@@ -110,7 +110,7 @@ fn visible<T: Copy>(rt: &impl Test, call: &Call<'_, T>) -> VisibleCall<T> {
     }
 }
 
-/// Stops the test where calls on a frame do not give these answers.
+/// Fails the test unless the calls on a frame have these results.
 pub fn check_calls<T: Pixel>(
     rt: &impl Test,
     frame: &mut Frame<T>,
@@ -125,7 +125,7 @@ pub fn check_calls<T: Pixel>(
     must_show(rt, &answers.expect(rt, "memory"), wanted);
 }
 
-/// Stops the test where calls on a luma plane in a buffer do not give these answers, or do not leave this buffer.
+/// Fails the test unless the calls on a luma plane with a buffer have these results and leave the expected buffer.
 pub fn check_replay<T: Pixel>(
     rt: &impl Test,
     layout: Layout,

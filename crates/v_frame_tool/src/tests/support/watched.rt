@@ -1,39 +1,39 @@
-//! A writer that takes little, says how it was called, and fails or takes nothing from some call on.
+//! A writer that takes few bytes, records its calls, and fails or takes no bytes from some call on.
 
 use crate::counted::Counted;
 use crate::tests::support::checks::{Test, same_at};
 use std::alloc::Global;
 use std::io::{self, ErrorKind, Write};
 
-/// What a writer does at a call in place of taking bytes.
+/// The action of a writer at a call that takes no bytes.
 #[derive(Clone, Copy)]
 pub enum Habit {
-    /// Takes nothing.
+    /// The writer returns that it took no bytes.
     TakesNone,
-    /// Fails.
+    /// The writer fails.
     Fails,
 }
 
-/// A writer that takes a few bytes a call, counts its calls, and after some of them has a habit.
+/// A writer that takes a few bytes at each call, counts its calls, and then changes to its habit.
 #[derive(Drop)]
 pub struct WatchedWriter {
-    /// What was taken.
+    /// The bytes that the writer took.
     pub taken: Vec<u8>,
-    /// How many bytes a call takes at most.
+    /// The largest number of bytes that a call takes.
     pub most: usize,
-    /// How many calls are left that take bytes.
+    /// The number of remaining calls that take bytes.
     pub calls: usize,
-    /// What it does then.
+    /// The action of the calls after these.
     pub then: Habit,
-    /// How many calls of `write` there were.
+    /// The number of calls of `write`.
     pub writes: usize,
-    /// How many of them offered no byte.
+    /// The number of calls of `write` without any bytes.
     pub empty_writes: usize,
-    /// How many calls of `flush` there were.
+    /// The number of calls of `flush`.
     pub flushes: usize,
 }
 
-/// Returns a writer that was not called, takes so many bytes at each of so many calls, and then does this.
+/// Returns a writer that was not called. It takes at most `most` bytes at each of `calls` calls, and then does `then`.
 pub fn watched_writer(
     alloc: Global,
     most: usize,
@@ -74,7 +74,7 @@ impl Write for WatchedWriter {
     }
 }
 
-/// Stops the test where a writer has taken other bytes, or has not failed so often, in the case of this number.
+/// Fails the test unless a writer took these bytes and failed this number of times, and reports the number of the case.
 pub fn must_have_taken(
     rt: &impl Test,
     out: &Counted<WatchedWriter>,
@@ -85,7 +85,7 @@ pub fn must_have_taken(
     same_at(rt, (out.failures(), taken), (failures, bytes), case);
 }
 
-/// Returns the calls of `write`, those that offered nothing, and the calls of `flush`.
+/// Returns the numbers of calls of `write`, of calls of `write` without any bytes, and of calls of `flush`.
 pub fn calls_of(out: &Counted<WatchedWriter>) -> [usize; 3] {
     let writer = out.get_ref();
     [writer.writes, writer.empty_writes, writer.flushes]

@@ -1,4 +1,4 @@
--- What is written is the text of the answers, which are those of an accepted copy.
+-- The written text is that of the results, which are those of a successful copy.
 use Rattle.std.proofs.Common.{ℕ, ◌≡◌, List, ◌∙◌, sym, ap, subst, take, drop, length, is_ok, true, rules}
 use Rattle.v_frame.specs.Prelude.{cut_rows}
 use Rattle.v_frame_tool_run.specs.Printed.{text_of_table}

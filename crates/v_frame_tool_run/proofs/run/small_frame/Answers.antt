@@ -1,4 +1,4 @@
--- What the builder was asked for is a luma plane of 4 by 2.
+-- The request to the builder is a luma plane of 4 by 2 pixels.
 use Rattle.std.proofs.Common.{ap, ◌∙◌}
 use Rattle.v_frame.specs.Prelude.{FrameRequest}
 use Rattle.v_frame_tool_run.proofs.Texts.{blank_shows}

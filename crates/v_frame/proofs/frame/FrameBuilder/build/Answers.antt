@@ -1,4 +1,4 @@
--- Each part is what was asked for.
+-- Each part is as requested.
 use Rattle.std.proofs.Common.{◌∙◌, ap}
 use Rattle.std.specs.Option.{option_map}
 use Rattle.v_frame_raster.specs.Raster.{filled}

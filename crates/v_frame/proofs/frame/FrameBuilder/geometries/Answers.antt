@@ -1,4 +1,4 @@
--- Luma fits by the test, and chroma is no larger.
+-- The check shows that luma fits, and chroma is not larger.
 use Rattle.std.proofs.Common.{◌∙◌, sym, ap}
 use Rattle.std.specs.Result.{result_ok}
 use Rattle.v_frame_raster.proofs.ChromaLemmas.{chroma_fits, geometry_of_ok}

@@ -1,4 +1,4 @@
--- A frame that is built shows a table of its size, which the copy fills.
+-- A new frame shows a table of the requested size, which the copy fills.
 use Rattle.std.proofs.Common.{ℕ, ◌<◌, length, get_or, Ok, refl, ◌∙◌, rules}
 use Rattle.std.proofs.lemmas.Result.{IfOk-weaker}
 use Rattle.v_frame_raster.specs.Pixel.{PixelForm}

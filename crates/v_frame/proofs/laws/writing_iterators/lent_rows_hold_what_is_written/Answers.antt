@@ -1,4 +1,4 @@
--- A table into which nothing is written is as it was, and with its border it determines the plane.
+-- A table into which nothing is written is unchanged. Together with its border, it determines the plane.
 use Rattle.v_frame.proofs.Unwritten.{rows_kept}
 use Rattle.v_frame.proofs.laws.writing_iterators.lent_rows_hold_what_is_written.Goals as goal
 

@@ -1,4 +1,4 @@
--- Inside the rectangle the pixel is read and replaced. Outside of it nothing is.
+-- Inside the rectangle, the pixel is read and replaced. Outside, nothing happens.
 use Rattle.std.proofs.Common.{sym, arith}
 use Rattle.v_frame_raster.specs.Raster.{table_of}
 use Rattle.v_frame_raster.proofs.tables.Overwrites.{with_pixel_beside, with_row_below}

@@ -1,4 +1,4 @@
--- Outside the rectangle the table has no pixel.
+-- Outside the rectangle, the table has no pixel.
 use Rattle.std.proofs.Common.{ap, sym, arith}
 use Rattle.v_frame_raster.specs.Raster.{table_of}
 use Rattle.v_frame.specs.Replay.{answer_of_pixel}

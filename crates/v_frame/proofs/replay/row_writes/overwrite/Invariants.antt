@@ -1,4 +1,4 @@
--- The row so far is overwritten by what of the list is read.
+-- The row so far is overwritten by the entries of the list that were read.
 use Rattle.std.proofs.Common.{◌≡◌, take}
 use Rattle.v_frame_raster.specs.Table.{overwritten_row}
 use Rattle.v_frame.proofs.replay.row_writes.overwrite.Given as goal

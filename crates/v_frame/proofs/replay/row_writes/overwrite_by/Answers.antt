@@ -1,4 +1,4 @@
--- The row is overwritten by what is to be written into it.
+-- The row is overwritten by the writes of the draw.
 use Rattle.std.proofs.Common.{◌∙◌, ap}
 use Rattle.v_frame_raster.specs.Table.{overwritten_row}
 use Rattle.v_frame.proofs.replay.row_writes.overwrite_by.Goals as goal

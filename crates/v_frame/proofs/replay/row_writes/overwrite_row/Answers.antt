@@ -1,4 +1,4 @@
--- The row is overwritten in its place, and all else is as before.
+-- The row is overwritten in its place, and everything else is unchanged.
 use Rattle.std.proofs.Common.{List, slice_set, sym, ◌∙◌, ap}
 use Rattle.v_frame_raster.specs.Table.{overwritten_row, with_item_by}
 use Rattle.v_frame_raster.specs.Raster.{table_of}

@@ -1,4 +1,4 @@
--- The row is overwritten where there was room for what it was, and nothing is where there wasn't.
+-- The row is overwritten if the memory for its old pixels was allocated. Otherwise nothing is written.
 use Rattle.std.proofs.Common.{refl}
 use Rattle.std.proofs.lemmas.Result.{err_from_is_err_and}
 use Rattle.v_frame.proofs.replay.row_writes.replay_row_mut.Goals as goal

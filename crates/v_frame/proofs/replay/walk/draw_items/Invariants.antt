@@ -1,4 +1,5 @@
--- The answers and what remains are those of the calls so far, and there is room for the others.
+-- The results and the remaining items are those of the calls so far, and the memory for the other results is
+-- allocated.
 use Rattle.std.proofs.Common.{◌≡◌, ◌≤◌, length, map, take, vec_len, vec_capacity}
 use Rattle.v_frame.specs.Walk.{drawn_in_turn, remaining_in_turn}
 use Rattle.v_frame.proofs.replay.walk.draw_items.Given as goal

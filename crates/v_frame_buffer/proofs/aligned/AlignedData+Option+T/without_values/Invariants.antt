@@ -1,4 +1,4 @@
--- The entries so far are without a value, and there is room for the others.
+-- The entries so far are empty, and there is memory for the others.
 use Rattle.std.proofs.Common.{◌≡◌, ◌+◌, replicate, None}
 use Rattle.v_frame_buffer.proofs.aligned.AlignedData+Option+T.without_values.Given as goal
 

@@ -1,4 +1,4 @@
--- All entries are a part that begins with the first.
+-- The slice of all entries is a part that begins with the first entry.
 use Rattle.std.proofs.Common.{refl, sym, ◌∙◌}
 use Rattle.v_frame_buffer.proofs.block.BlockKept.{part_written}
 use Rattle.v_frame_buffer.proofs.Parts.{front_part, front_range}

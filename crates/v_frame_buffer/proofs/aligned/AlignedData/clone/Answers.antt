@@ -1,4 +1,4 @@
--- The next entry of the source is one more.
+-- Each step of the loop adds the next entry of the source.
 use Rattle.std.proofs.Common.{ℕ, ◌≡◌, List, [], ◌∷◌, ◌++◌, ◌+◌, ◌<◌, take, length, get_or, ◌∙◌, arith}
 use Rattle.std.proofs.lemmas.List.{take_all}
 use Rattle.std.proofs.lemmas.Grind.{common_steps}

@@ -1,4 +1,4 @@
--- The entries so far are the first of the source, and there is room for the others.
+-- The entries so far are the first entries of the source, and there is memory for the others.
 use Rattle.std.proofs.Common.{◌≡◌, ◌+◌, length, take}
 use Rattle.v_frame_buffer.proofs.aligned.AlignedData.clone.Given as goal
 

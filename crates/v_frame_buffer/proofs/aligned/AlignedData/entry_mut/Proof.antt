@@ -1,5 +1,5 @@
--- `entry_mut` lends an entry of the slice that `as_mut_slice` lends. Rattle follows no loan of a loan, so this proof
--- follows the code. Assumes `Logic`.
+-- `entry_mut` lends an entry of the slice that `as_mut_slice` lends. Rattle cannot follow a loan of a loan, so this
+-- hand-written proof follows the code. Assumes `Logic`.
 use Rattle.v_frame_buffer.proofs.Steps.{◌≡◌, ◌<◌, List, [], ◌∷◌, length, ℕ, Some, w64, refl, sym, ap, ◌∙◌, proved, id⊢}
 use Rattle.v_frame_buffer.proofs.Steps.{fact, tables, Array, usize, yes, no, shows, param, layouts, uint_vals}
 use Rattle.v_frame_buffer.proofs.Steps.{uint_Tells, MutRef, mut_vals, Valss, types_at, mut_Tells, plain, MutSlice}
@@ -19,7 +19,7 @@ use Rattle.v_frame_buffer.specs.contracts.aligned.AlignedData.entry_mut
 use Rattle.v_frame_buffer.proofs.aligned.AlignedData.entry_mut.Statement.{statement}
 use Rattle.v_frame_buffer.proofs.aligned.AlignedData.entry_mut.Code as code
 
--- a list with an entry set is as long as before, so nothing is cut off it or added
+-- Setting an entry keeps the length of a list, so the list is neither cut nor extended.
 same_length : {X : Type 0} (ys xs : List X) (k : ℕ) → ys ≡ xs → (λ x. refill (length xs) xs (slice_set ys k x)) ≡
     slice_set xs k
 same_length ys xs k same i x =
@@ -43,7 +43,7 @@ entry_mut_spec 𝓤 𝓛 𝓜 𝓡 wired T laws =
     opened_by 𝓛 En.signature κs qs a words _ _ (both_facts 𝓤 _ _) (λ asked.
     enter ! _ _ _ _ _ $ alloc_all ! (λ l. pass_all ! refl (_, ((tt, record { fits = are.1.0.1 }), tt)) $
     sets ! (addr ! (through ! refl (stop !))) refl _ $
-    -- [the tokens of the lifetimes; self; the place; the locals]
+    -- Context: [the tokens of the lifetimes; self; the place; the locals]
     calls ! (0 ∷ 1 ∷ 2 ∷ []) run (as_mut_slice.ended T) (as_mut_slice.clauses T 𝓛 𝓜.mem 𝓡.returns)
     (slice_met.met 𝓤 𝓛 𝓜 𝓡 (code.calls-v_frame_buffer::aligned::AlignedData::as_mut_slice 𝓡.env wired) T laws)
     ((κs, qs, bounds, (self, tt), (mut_vals self, tt)), tt) (asks_that 𝓤 asked.0) refl
@@ -52,7 +52,7 @@ entry_mut_spec 𝓤 𝓛 𝓜 𝓡 wired T laws =
     (fact 𝓤 (s.now ≡ self.now)) ∷ [])
     (λ s ws. id⊢ 𝓤 _) (λ v s ws. peeks ! All _ (shows 𝓛 All) s (v ∷ []) (λ is. move ! (2 ∷ []) $ heard ! _ (λ same.
     lands_as ! refl refl ((mut_slice_Lawful 𝓛 (named 0) κs.0 R).typed s (v ∷ []) is).0 $
-    -- [the slice; how self follows it; the tokens; nothing; the place; the locals]
+    -- Context: [the slice; how self follows it; the tokens; nothing; the place; the locals]
     calls ! (2 ∷ 3 ∷ 0 ∷ 5 ∷ []) run (entry_of.ended T) (entry_of.clauses T 𝓛 𝓜.mem 𝓡.returns)
     (entry_met.met 𝓤 𝓛 𝓜 𝓡 (code.calls-v_frame_buffer::aligned::entry_of 𝓡.env wired) T laws)
     ((κs, qs, bounds, (s, (k, tt)), (v ∷ [], (uint_vals w64 k, tt))), tt)
@@ -63,7 +63,7 @@ entry_mut_spec 𝓤 𝓛 𝓜 𝓡 wired T laws =
     (λ r ws. id⊢ 𝓤 _) (λ v' r ws. peeks ! One _ (shows 𝓛 One) r (v' ∷ []) (λ is'. move ! (2 ∷ []) $ heard ! _ (λ value.
     lands_as ! refl refl ((mut_Lawful 𝓛 (named 0) κs.0 R).typed r (v' ∷ []) is').0 $ returns ! (look_at ! 0 refl) $
     free_all ! refl $
-    -- [the entry; how the slice follows it; the tokens; nothing, twice; how self follows the slice]
+    -- Context: [the entry; how the slice follows it; the tokens; nothing, twice; how self follows the slice]
     let Ends : (T.Denot → List T.Denot) → _ = λ F. ‵ (follows Data R self.ghost_name r.ghost_name F) in
     move ! (6 ∷ 1 ∷ []) $ use2 𝓛 (Ends (λ x. refill (length self.now) self.now (slice_set s.now k x)))
     (follows_then 𝓛 Data (Array R 0) R (refill (length self.now) self.now) (slice_set s.now k) self.ghost_name

@@ -1,4 +1,4 @@
--- Each turn adds one more copy.
+-- Each step of the loop adds one more copy.
 use Rattle.std.proofs.Common.{◌++◌, ◌∷◌, [], replicate, ap, ◌∙◌, arith}
 use Rattle.std.proofs.lemmas.List.{replicate_more}
 use Rattle.v_frame_buffer.proofs.aligned.AlignedData.new.Goals as goal

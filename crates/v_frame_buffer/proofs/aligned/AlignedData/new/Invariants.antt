@@ -1,4 +1,4 @@
--- The entries so far are copies of the value, and there is room for the others.
+-- The entries so far are copies of the value, and there is memory for the others.
 use Rattle.std.proofs.Common.{◌≡◌, ◌+◌, replicate}
 use Rattle.v_frame_buffer.proofs.aligned.AlignedData.new.Given as goal
 

@@ -1,5 +1,5 @@
--- `allocate` makes the parts of a block without entries: of nothing where they take no bytes, else of what the
--- allocator answered. Assumes `Logic`.
+-- `allocate` makes the parts of a block without entries. They need no memory if the entries take no bytes, and
+-- otherwise use the memory that the allocator returned. Assumes `Logic`.
 use Rattle.v_frame_buffer.proofs.Steps.{refl, sym, ℕ, ◌+◌, ◌*◌, ◌<◌, ◌^◌, arith, List, [], ◌∷◌, lit<, Ura, named, w64}
 use Rattle.v_frame_buffer.proofs.Steps.{inst_fn, Val, vptr, vstruct, vcons, vnil, SProp, ent, sep, flft, Logic, sem}
 use Rattle.v_frame_buffer.proofs.Steps.{tables, Item, ‵, raw, later, ◌⊛◌, at_ret, ◌$◌, ◌∵◌, !, qed, by, move, keep}
@@ -40,7 +40,7 @@ module _ (E : El) (Z : Al) where
   abbrev Out : RattleType
   Out = RS.the_row Three AE.the_row
 
-  -- the parts of a block of n entries at (b, o), and their machine value
+  -- The parts of a block of n entries at (b, o), and their machine value.
   abbrev made : ℕ → ℕ → ℕ → Z.row.Denot → Three.Denot
   made b o n a =
       let p = block_ptr b o in (
@@ -53,7 +53,7 @@ module _ (E : El) (Z : Al) where
   abbrev parts_val : ℕ → ℕ → Val
   parts_val b o = vstruct (vcons (word (block_ptr b o)) (vcons no_bytes (vcons no_bytes vnil)))
 
-  -- room, and what its deed owns, are the parts
+  -- Uninitialized memory and the resources of its deed make up the parts.
   parts_made : {M : Type 1} {𝓤 : Ura M} (𝓛 : Logic 𝓤) (b o n : ℕ) (a : Z.row.Denot) → n * wide E < 2 ^ 63
       → ent 𝓤 (sep 𝓤 (sem 𝓛 (room_at (R E) b o n)) (sem 𝓛 (deed_owns (R E) (token Z a) (block_ptr b o) n)))
       (sem 𝓛 (Out.own_val (Ok (made b o n a)) (live 0 (vcons (parts_val b o) vnil) ∷ [])))
@@ -70,13 +70,13 @@ module _ (E : El) (Z : Al) where
       use0 𝓛 (‵ Mark) marked $ fjoin ! $ move ! (1 ∷ []) $ use0 𝓛 (‵ Mark) marked $ fjoin ! $
       pure_i ! ((Bases E).own_val parts.0 (word p ∷ [])) (λ vss. (tt, (tt, tt)))
       ((vptr b o ∷ [], tt), (refl, (refl, tt))) $
-      -- [the base; the deed; the cells]
+      -- Context: [the base; the deed; the cells]
       nothing ! $ move ! (2 ∷ 0 ∷ []) $ fjoin ! $ move ! (2 ∷ 0 ∷ []) $ fjoin ! $ move ! (1 ∷ 0 ∷ []) $ fjoin ! $
       feq_i ! (List Val) (parts_val b o ∷ []) (parts_val b o ∷ []) refl $ fjoin ! $
       fpack ! (Valss rows) (packed (shape (tuple_type rows)) (parts.0, (parts.1, (parts.2, tt))) (parts_val b o ∷ []))
       (word p ∷ [], (no_bytes ∷ [], (no_bytes ∷ [], tt))) $ by ! (ok_of 𝓛 Three AE.the_row parts (parts_val b o))
 
--- what runs where a test holds
+-- The code that is executed if a test is true.
 abbrev held : Body → Body
 held (cond c a b) = a
 held b = skip
@@ -102,12 +102,13 @@ allocate_spec 𝓤 𝓛 𝓜 𝓡 wired X W X-laws W-laws g d dd met _ =
     let small : len * s < 2 ^ 63 = asked.1.1.0 in let bytes : len * s < 2 ^ 64 = omega arith in
     keep ! (3 ∷ 0 ∷ 1 ∷ 2 ∷ []) $ fsplit ! $ drop ! $
     enter ! _ _ _ _ _ $ alloc_all ! (λ l. pass_all ! refl (_, ((tt, record { fits = are.1.0.1 }), tt)) $
-    -- what follows the test whether the entries take any bytes; the switch on the allocator's answer; how its arms end
+    -- The code after the test whether the entries take any bytes; the `match` on the allocator's result; the ends of
+    -- its arms.
     let Ev = env fn.locals l in let rest = after 5 fn.body in let answered = after 1 (held (head (after 4 fn.body))) in
     let Then = any_q (after_seq 𝓤 𝓛.H (Wp 𝓤 𝓛.H 𝓣.C 𝓣.Λ Ev rest (at_return 𝓤 𝓛.H Ev Post)) (at_return 𝓤 𝓛.H Ev Post)) in
-    -- what the deed owns, where the test whether the entries take no bytes gives `none`
+    -- The resources of the deed. `none` is the result of the test whether the entries take no bytes.
     let Token : ℕ → ℕ → Bool → Item 𝓤 = λ b o none. ‵ (token_if (R E) none (token Z h) (block_ptr b o) len) in
-    -- once the room is known, the parts are put together
+    -- Once the memory is known, the parts are put together.
     let tail : (b o : ℕ) → Sq 𝓛 (‵ (room_at (R E) b o len) ∷ Token b o (len * s == 0) ∷ ‵ (flft κ q) ∷ ‵
     (flft κs.1.0 qs.1.0) ∷ ‵ (flft κs.1.1.0 qs.1.1.0)
     ∷ holding 𝓛 Ev ((5, vptr b o) ∷ [])) (runs 𝓣.C 𝓣.Λ Ev rest (at_ret Ev Post)) = λ b o.
@@ -122,7 +123,7 @@ allocate_spec 𝓤 𝓛 𝓜 𝓡 wired X W X-laws W-laws g d dd met _ =
     returns ! (look_at ! 0 refl) $ free_all ! refl $ nothing ! $ nothing ! $
     ends ! (3 ∷ 4 ∷ 5 ∷ 0 ∷ 1 ∷ 2 ∷ []) En stayed c y v (Ok (made E Z b o len h)) (tt, (tt, tt)) (tt, (tt, tt)) refl $
     tells ! (refl, refl, refl) $ tells ! (refl, refl, refl) $ told ! (λ _. refl) in
-    -- [the handle; the tokens of κ, of the entries and of the allocator; the locals]
+    -- Context: [the handle; the tokens of κ, of the entries and of the allocator; the locals]
     sets ! (counted ! len bytes (get ! refl)) refl (tt, record { fits = bytes }) $
     sets ! (agg ! (no_more !)) refl _ $ sets ! (addr ! (from ! (stop !))) refl _ $
     sets ! (bin ! (get ! refl) (lit ! tt) tt) refl _ $ first ! $ branches ! (get ! refl)

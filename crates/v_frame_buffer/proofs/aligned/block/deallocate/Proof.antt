@@ -1,5 +1,5 @@
--- `deallocate` drops the entries from the first on, so that the block is room again, and gives that to the allocator.
--- Assumes `Logic`.
+-- `deallocate` drops the entries in order, so that the block is uninitialized memory again, and returns it to the
+-- allocator. Assumes `Logic`.
 use Rattle.v_frame_buffer.proofs.Steps.{◌≡◌, refl, sym, ap, ◌∙◌, List, [], ◌∷◌, ℕ, ◌+◌, ◌*◌, ◌≤◌, ◌<◌, ◌^◌, arith, lit<}
 use Rattle.v_frame_buffer.proofs.Steps.{length, Ura, full_share, a_type, named, w64, inst_fn, Val, vptr, vint, SProp}
 use Rattle.v_frame_buffer.proofs.Steps.{sep, id⊢, fat, flft, Logic, fact, ◌⊑◌, tables, Item, ‵, raw, some, later, ◌⊛◌}
@@ -38,7 +38,7 @@ use Rattle.v_frame_buffer.specs.contracts.aligned.block.deallocate.Key.{name as 
 use Rattle.v_frame_buffer.proofs.aligned.block.deallocate.Statement.{statement}
 use Rattle.v_frame_buffer.proofs.aligned.block.deallocate.Code as code
 
--- what a caller of the entries' drop knows
+-- The contract of dropping an entry, as a caller sees it.
 abbrev Drops : RattleType → Ended
 Drops X = record { signature = glue.signature X; kept = (no, tt) }
 
@@ -50,7 +50,7 @@ drops X {𝓤 = 𝓤} 𝓛 κs a = record {
       λ _ r e. emp 𝓤;
 }
 
--- a list that is not empty has a first entry
+-- A list that is not empty has a first entry.
 first_of : {A : Type 0} (xs : List A) → 0 < length xs → (x : A) × (rest : List A) × (xs ≡ x ∷ rest)
 first_of [] h = absurd (omega (arith, h))
 first_of (x ∷ xs) h = (x, xs, refl)
@@ -117,7 +117,8 @@ deallocate_spec 𝓤 𝓛 𝓜 𝓡 wired X W X-laws W-laws g dz dx dd met dropp
     fsplit ! $ drop ! $
     enter ! _ _ _ _ _ $ alloc_all ! (λ l. pass_all ! refl
     (_, (word-Good [] start, ((tt, record { fits = few }), ((tt, record { fits = fits }), _)))) $
-    -- [the handle; what the deed owns; what the cells own; the tokens of κ, κ₁ and κ₂; the locals]
+    -- Context: [the handle; the resources of the deed; the resources of the cells; the tokens of κ, κ₁ and κ₂; the
+    -- locals]
     let Ev = env fn.locals l in let turn = inside (inside (head (after 1 fn.body))) in let rest = after 2 fn.body in
     sets ! (of_opd ! (lit ! tt)) refl (tt, record { fits = lit< tt }) $
     move ! (2 ∷ []) $ in_a_block ! _ (λ p. cells_own (R E) p items spare) (id⊢ 𝓤 (never 𝓤))
@@ -128,7 +129,7 @@ deallocate_spec 𝓤 𝓛 𝓜 𝓡 wired X W X-laws W-laws g dz dx dd met dropp
       subst (λ k. k * s < 2 ^ 63) (ap (λ k. k + spare) of_cells.1 ∙ all)
           fit,
     ) in
-    -- what the deed owns, where the test whether the entries take no bytes gives `none`
+    -- The resources of the deed. `none` is the result of the test whether the entries take no bytes.
     let Token : Bool → Item 𝓤 = λ none. ‵ (token_if (R E) none (token Z h) (block_ptr b o) len) in
     rewrite ! 3 (λ (d : W.Denot × Ptr × ℕ). ‵ (deed_owns (R E) (token Z d.0) d.1 d.2))
     (λ j. (of_deed.2 j, (of_deed.0 ∙ begins) j, of_deed.1 j)) refl $
@@ -138,22 +139,22 @@ deallocate_spec 𝓤 𝓛 𝓜 𝓡 wired X W X-laws W-laws g dz dx dd met dropp
     give_at ! 2 $
     use0 𝓛 (‵ (froom (ty_array (elτ E) 0) b o)) (𝓛.laws.room_nil (elτ E) b o) $ move ! (1 ∷ 0 ∷ 2 ∷ 4 ∷ 3 ∷ []) $
     forget_but ! Ev (1 ∷ 2 ∷ 3 ∷ 4 ∷ 7 ∷ []) refl $
-    -- the next place, and the entries that are left
+    -- The index of the next entry, and the remaining entries.
     let Left : Type 0 = (i : ℕ) × (xs : List X.Denot) × (i + length xs ≡ written) in
     let Fewer : Left → Left → Type 0 = λ t u. length t.1 < length u.1 in
-    -- [the entries that are left; room before them, and after them all; what the deed owns; the handle; the tokens of
-    -- κ, κ₁ and κ₂; the locals]
+    -- Context: [the remaining entries; the uninitialized memory before them, and after all of them; the resources of
+    -- the deed; the handle; the tokens of κ, κ₁ and κ₂; the locals].
     let Now : Left → List (Item 𝓤) = λ t. ‵ (entries_at (R E) b (t.0 * s + o) t.1) ∷ ‵
     (froom (ty_array (elτ E) t.0) b o)
     ∷ ‵ (room_at (R E) b (written * s + o) spare) ∷ Token (len * s == 0) ∷ ‵ (hidden_shr (P E Z) κ h at.0 at.1) ∷ ‵
     (flft κ q) ∷ ‵ (flft κ₁ q₁) ∷ ‵ (flft κ₂ q₂)
     ∷ holding 𝓛 Ev ((1, vptr at.0 at.1) ∷ (2, word (block_ptr b o)) ∷ (3, vint w64 written) ∷ (4, vint w64 len) ∷
     (7, vint w64 t.0) ∷ []) in
-    -- a turn leaves fewer entries, or the loop, after which the rest of the code runs
+    -- A step of the loop leaves fewer entries, or leaves the loop, after which the rest of the code is executed.
     let Turned : Left → After 𝓤 𝓛.H = λ t. any_q (after_turn 𝓤 𝓛.H (Below 𝓛 Fewer Now t)
     (after_block 𝓤 𝓛.H (after_seq 𝓤 𝓛.H
     (Wp 𝓤 𝓛.H 𝓣.C 𝓣.Λ Ev rest (at_return 𝓤 𝓛.H Ev Post)) (at_return 𝓤 𝓛.H Ev Post)))) in
-    -- the end: the tokens
+    -- At the end, the tokens remain.
     let exits : Sq 𝓛 (‵ (flft κ q) ∷ ‵ (flft κ₁ q₁) ∷ ‵ (flft κ₂ q₂) ∷ holding 𝓛 Ev [])
     (runs 𝓣.C 𝓣.Λ Ev (after 3 rest) (at_ret Ev Post)) =
     sets ! (of_opd ! (unit_lit !)) refl _ $ returns ! (look_at ! 0 refl) $ free_all ! refl $
@@ -163,7 +164,7 @@ deallocate_spec 𝓤 𝓛 𝓜 𝓡 wired X W X-laws W-laws g dz dx dd met dropp
     first ! $ blocks ! $ loops ! (tables_of 𝓤 𝓛.H 𝓜 𝓣) Fewer (InvImage.wf (λ (t : Left). length t.1) lt-wf_rel.wf) Now
     (λ t. let i = t.0 in
     sets ! (bin ! (get ! refl) (get ! refl) tt) refl _ $ first ! $ branches ! (get ! refl)
-    -- the next entry is dropped
+    -- The next entry is dropped.
     (λ less. let more : i < written = ltb→lt i written less in let next = first_of t.1 (omega (arith, t.2)) in let x =
     next.0 in let xs = next.1 in
     let left : suc i + length xs ≡ written = omega (arith, t.2, ap length next.2) in
@@ -180,8 +181,8 @@ deallocate_spec 𝓤 𝓛 𝓜 𝓡 wired X W X-laws W-laws g dz dx dd met dropp
     sets ! (of_opd ! (get ! refl)) refl good $
     sets ! (is ! (bin ! (get ! refl) (lit ! tt) (record { fits = omega arith })) (ap (vint w64) (one_more i))) refl
     (tt, record { fits = omega arith }) $
-    -- [its cell; the entry; the entries left; room before them, and after them all; what the deed owns; the handle; the
-    -- tokens; the locals]
+    -- Context: [its cell; the entry; the remaining entries; the uninitialized memory before them, and after all of
+    -- them; the resources of the deed; the handle; the tokens; the locals]
     forget ! 0 refl $ move ! (3 ∷ 0 ∷ []) $ use2 𝓛 (‵ (froom (ty_array (elτ E) (suc i)) b o))
     (Rows.room_snoc rows 𝓛 b o i) $
     calls_last ! (7 ∷ 1 ∷ []) run (Drops X) (drops X 𝓛) dropped (((κ₁, tt), (q₁, tt), tt, (x, tt), (v ∷ [], tt)), tt)
@@ -192,7 +193,7 @@ deallocate_spec 𝓤 𝓛 𝓜 𝓡 wired X W X-laws W-laws g dz dx dd met dropp
     rewrite ! 0 (λ (k : ℕ). ‵ (entries_at (R E) b k xs)) {x = suc i * s + o} (omega (arith, suc-mul i s)) refl $
     forget_but ! Ev (1 ∷ 2 ∷ 3 ∷ 4 ∷ 7 ∷ []) refl $ again ! Fewer Now t (suc i, xs, left)
     (omega (arith, ap length next.2)))))))
-    -- all are dropped, so the block is room
+    -- All entries are dropped, so the block is uninitialized memory.
     (λ over. let past : written ≤ i = nltb→le i written over in jumps ! $ exec ! 𝓣.C 𝓣.Λ Ev rest (at_ret Ev Post) $
     drop ! $
     rewrite ! 0 (λ (k : ℕ). ‵ (froom (ty_array (elτ E) k) b o)) {x = written} (omega (arith, t.2)) refl $

@@ -1,4 +1,4 @@
--- The bytes of a plane are no more than its buffer takes.
+-- The bytes of the visible pixels are at most as many as the bytes of the buffer.
 use Rattle.std.proofs.Common.{◌*◌, None, ap, arith}
 use Rattle.v_frame_plane.proofs.iterators.BegunPixels.{count_of_bytes, few_bytes}
 use Rattle.v_frame_plane.proofs.bytes.ByteData.new.Goals as goal

@@ -1,4 +1,4 @@
--- The rows of a plane aren't empty, and its pixels are no more than its buffer holds.
+-- The rows of a plane are not empty, and it has at most as many pixels as its buffer has entries.
 use Rattle.std.proofs.Common.{append-nil, refl}
 use Rattle.v_frame_raster.specs.Table.{row_major}
 use Rattle.v_frame_raster.specs.Raster.{table_of}

@@ -1,5 +1,5 @@
--- The pixel comes from the row that was begun from the back, or else a row is begun: the last one, or the one that was begun from
--- the front.
+-- The pixel comes from the row that was begun from the back. Otherwise a row is begun: the last one, or the one that
+-- was begun from the front.
 use Rattle.std.proofs.Common.{[], ◌∷◌, length, sym, ap, arith, append_assoc, append-nil, length-append}
 use Rattle.std.proofs.lemmas.Bool.{eqb-true}
 use Rattle.std.proofs.lemmas.List.{nil_from_length}

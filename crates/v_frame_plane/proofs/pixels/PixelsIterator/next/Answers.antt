@@ -49,7 +49,7 @@ invariant_of-self g c =
           (arith, c.self.invariant.bound, ap length c.in-Some.ensures.cases.0);
     }
 
--- no pixel is left
+-- No pixel remains.
 pub invariant_of-self-in_err-pixel : goal.invariant_of-self-in_err-pixel
 invariant_of-self-in_err-pixel g c =
     elim c.match-next.branch [

@@ -1,4 +1,4 @@
--- `next` takes its pixel from the row that was begun from the front, and begins another one where that is at its end.
+-- `next` takes its pixel from the row that was begun from the front, and begins another row if this one is used up.
 use Rattle.v_frame_buffer.proofs.Steps.{[], ◌∷◌, a_type, layouts}
 use Rattle.v_frame_plane.specs.contracts.pixels_mut.PixelsMut.next.Key as next
 use Rattle.v_frame_plane.specs.contracts.pixels_mut.PixelsMut.next_of_front.Key as next_of_front

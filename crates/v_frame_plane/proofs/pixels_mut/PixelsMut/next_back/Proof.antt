@@ -1,5 +1,5 @@
--- `next_back` takes its pixel from the row that was begun from the back, and begins another one where that is at its
--- end.
+-- `next_back` takes its pixel from the row that was begun from the back, and begins another row if this one is used
+-- up.
 use Rattle.v_frame_buffer.proofs.Steps.{[], ◌∷◌, a_type, layouts}
 use Rattle.v_frame_plane.specs.contracts.pixels_mut.PixelsMut.next_back.Key as next_back
 use Rattle.v_frame_plane.specs.contracts.pixels_mut.PixelsMut.next_of_back.Key as next_of_back

@@ -1,4 +1,4 @@
--- The copy is decided by the sizes of the plane, which are those of its table.
+-- The outcome of the copy depends on the sizes of the plane, which are those of its table.
 use Rattle.std.proofs.Common.{◌≡◌, List, map, Ok, refl, ap, ◌∙◌}
 use Rattle.v_frame_raster.specs.Table.{row_major, cut_rows}
 use Rattle.v_frame_raster.specs.Raster.{Raster, raster, table_of}

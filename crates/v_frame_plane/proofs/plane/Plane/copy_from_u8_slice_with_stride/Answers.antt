@@ -1,4 +1,4 @@
--- The stride decides first, and then the length.
+-- The stride is checked first, and then the length.
 use Rattle.std.proofs.Common.{◌≡◌, ◌*◌, ◌<◌, ◌≤◌, length, map, min, Ok, Err, refl, ap, ◌∙◌, sym, arith}
 use Rattle.std.proofs.Math.Nat.{mul-pos}
 use Rattle.v_frame_raster.specs.Geometry.{usize_max}

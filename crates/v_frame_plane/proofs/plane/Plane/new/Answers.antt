@@ -1,4 +1,4 @@
--- The buffer has as many zeros as the geometry asks for.
+-- The buffer has the number of zeros that the geometry requires.
 use Rattle.std.proofs.Common.{length, refl, ap, ◌∙◌}
 use Rattle.std.proofs.lemmas.List.{length-replicate}
 use Rattle.v_frame_plane.proofs.plane.Plane.new.Goals as goal

@@ -1,4 +1,4 @@
--- The buffer has as many entries without a value as the geometry asks for.
+-- The buffer has the number of empty entries that the geometry requires.
 use Rattle.std.proofs.Common.{None, length, refl, ap, ◌∙◌}
 use Rattle.std.proofs.lemmas.List.{length-replicate}
 use Rattle.v_frame_plane.proofs.plane.Plane.new_uninit.Goals as goal

@@ -1,4 +1,4 @@
--- The entry that is lent is the one at the place, and what is left there replaces it. A row past the buffer has no entry.
+-- The lent entry is the one at the index, and its final value replaces it. A row below the buffer has no entry.
 use Rattle.std.proofs.Common.{◌≡◌, ◌+◌, ◌≤◌, slice_get, slice_set, refl, sym, ap, ◌∙◌, arith}
 use Rattle.std.proofs.lemmas.Option.{slice_get_past}
 use Rattle.std.specs.Option.{ghost_name_of}

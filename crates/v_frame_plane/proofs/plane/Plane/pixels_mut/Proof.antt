@@ -1,6 +1,5 @@
--- `pixels_mut` makes the iterator over the pixels of that over the rows, whose slice is the whole buffer. That this
--- slice
--- lies two fields deep no generated proof follows, so this one follows the code.
+-- `pixels_mut` makes the iterator over pixels from the iterator over rows, whose slice is the whole buffer. Generated
+-- proofs cannot follow a slice that lies two fields deep, so this hand-written proof follows the code.
 use Rattle.v_frame_buffer.proofs.Steps.{◌≡◌, ◌^◌, ◌<◌, [], ◌∷◌, length, refl, sym, ap, ◌∙◌, arith, proved, id⊢, ◌⊑◌, use1}
 use Rattle.v_frame_buffer.proofs.Steps.{fact, tables, param, layouts, mut_vals, mut_Tells, plain, named_lft, Array}
 use Rattle.v_frame_buffer.proofs.Steps.{shows, heard, nothing, peeks, framed, walk_of, Stays, inst_fn, a_type, named}
@@ -50,7 +49,7 @@ pixels_mut_spec 𝓤 𝓛 𝓜 𝓡 wired T laws =
     opened 𝓛 En.signature κs qs a (mut_vals self, tt) (κs.1.0 ⊑ T.lives) (λ inT.
     enter ! _ _ _ _ _ $ alloc_all ! (λ l. pass_all ! refl ((tt, tt), tt) $
     sets ! (addr ! (through ! refl (stop !))) refl (tt, tt) $
-    -- [the tokens of κ and κT; self; the locals]
+    -- Context: [the tokens of κ and κT; self; the locals]
     calls ! (0 ∷ 1 ∷ 2 ∷ []) run (rows_mut.ended T) (rows_mut.clauses T 𝓛 𝓜.mem 𝓡.returns)
     (rows_mut_met.met 𝓤 𝓛 𝓜 𝓡 (code.calls-v_frame_plane::plane::Plane::rows_mut 𝓡.env wired) T laws) bound
     (asks_that 𝓤 inT) refl
@@ -65,7 +64,7 @@ pixels_mut_spec 𝓤 𝓛 𝓜 𝓡 wired T laws =
     (λ r ws. id⊢ 𝓤 _) (λ v r ws. peeks ! Rows _ (shows 𝓛 Rows) r (v ∷ []) (λ is.
     lands_as ! refl refl (((rows_laws ℓ item (param_laws 0 T laws)).lawful 𝓛).typed r (v ∷ []) is).0 $
     move ! (2 ∷ 3 ∷ 5 ∷ []) $ heard ! _ (λ shown. heard ! _ (λ written. heard ! _ (λ countable.
-    -- [the rows; how the plane ends; four facts; the tokens; nothing; the locals]
+    -- Context: [the rows; how the plane ends; four facts; the tokens; nothing; the locals]
     calls ! (6 ∷ 7 ∷ 0 ∷ []) run (new.ended T) (new.clauses T 𝓛 𝓜.mem 𝓡.returns)
     (new_met.met 𝓤 𝓛 𝓜 𝓡 (code.calls-v_frame_plane::pixels_mut::PixelsMut::new 𝓡.env wired) T laws)
     ((κs, qs, bounds, (r, tt), (v ∷ [], tt)), tt) (asks_both 𝓤 inT countable) refl (and_then ! (get ! refl) (no_more !))
@@ -74,7 +73,7 @@ pixels_mut_spec 𝓤 𝓛 𝓜 𝓡 wired T laws =
     (λ walk ws. id⊢ 𝓤 _) (λ w walk ws. peeks ! Pixels _ (shows 𝓛 Pixels) walk (w ∷ []) (λ its.
     lands_as ! refl refl (((pixels_laws ℓ item (param_laws 0 T laws)).lawful 𝓛).typed walk (w ∷ []) its).0 $
     move ! (1 ∷ 2 ∷ 3 ∷ []) $ heard ! _ (λ rows_are. heard ! _ (λ front. heard ! _ (λ back.
-    -- [the pixels; the tokens; nothing; how the plane ends; ..; the locals]
+    -- Context: [the pixels; the tokens; nothing; how the plane ends; ..; the locals]
     returns ! (look_at ! 0 refl) $ free_all ! refl $ keep ! (0 ∷ 1 ∷ 2 ∷ 4 ∷ []) $ nothing ! $
     ends ! (2 ∷ 3 ∷ 0 ∷ 1 ∷ []) En stayed c bound w walk (tt, tt) (tt, tt) refl $
     rewrite ! 0 Ends (sym rows_are) refl $

@@ -1,6 +1,5 @@
--- `row_mut` tests y and passes on what `visible_row_mut` lends, in a `Some`. Rattle makes no proof where a `&mut [T]`
--- may be lent, so this one follows the
--- code.
+-- `row_mut` checks y and wraps the slice that `visible_row_mut` lends in `Some`. Rattle generates no proof for a
+-- `&mut [T]` that is lent only in some cases, so this hand-written proof follows the code.
 use Rattle.v_frame_buffer.proofs.Steps.{◌≡◌, ◌<◌, ◌≤◌, List, [], ◌∷◌, length, Some, None, lit<, w64, refl, sym, ap}
 use Rattle.v_frame_buffer.proofs.Steps.{arith, after, Some-of, none_of, proved, Lft, flent, flft, full_share, ent, id⊢}
 use Rattle.v_frame_buffer.proofs.Steps.{◌⊑◌, ⊑_trans, fact, tables, Array, usize, yes, no, mem, param, layouts}
@@ -38,7 +37,7 @@ use Rattle.v_frame_plane.specs.contracts.plane.Plane.row_mut
 use Rattle.v_frame_plane.proofs.plane.Plane.row_mut.Statement.{statement}
 use Rattle.v_frame_plane.proofs.plane.Plane.row_mut.Code as code
 
--- what ends as a function and a value say ends as what holds of them says
+-- If a function determines a final value, the value meets every statement that is true of the function.
 such : {M : Type 1} {𝓤 : Ura M} (𝓛 : Logic 𝓤) (R S : RattleType) (γ : GName) (m : Option GName) (F : S.Denot → R.Denot)
     (v : R.Denot)
     (P : S.Denot → R.Denot → Type 0) (P₀ : R.Denot → Type 0) → ((w : S.Denot) → P w (F w)) → P₀ v
@@ -70,19 +69,19 @@ row_mut_spec 𝓤 𝓛 𝓜 𝓡 wired T laws =
     opened 𝓛 En.signature κs qs a (mut_vals self, (uint_vals w64 y, tt)) (κT ⊑ T.lives) (λ inT.
     enter ! _ _ _ _ _ $ alloc_all ! (λ l. pass_all ! refl ((tt, tt), ((tt, record { fits = are.1.0.1 }), tt)) $
     sets ! (addr ! (through ! refl (stop !))) refl (tt, tt) $
-    -- the plane is shared with `height` for a lifetime κ', which is made for that call
+    -- The plane is shared with `height` for a lifetime κ', which is created for this call.
     move ! (1 ∷ []) $ lft_within ! tt κT qT (λ α.
     let κ' : Lft = α ∷ κT in let s = share_within qT in let shared = as_bor self in
     let within : κ' ⊑ T.lives = ⊑_trans κ' κT T.lives (meet_⊑_right (α ∷ []) κT) inT in
-    -- [the token of κ'; the way back to that of κT; the token of κ; self; y; the locals]
+    -- Context: [the token of κ'; the way back to that of κT; the token of κ; self; y; the locals]
     move ! (3 ∷ 2 ∷ []) $ fsplit3 ! $ drop ! $ open_ref ! tt (mem Plane) $ move ! (0 ∷ 4 ∷ []) $
     use2 𝓛 (later ((‵ ((ShrRef (named 0) κ' Plane).own_val shared (shr_vals shared)) ⊛ ‵
     (flent κ' (part_at Plane full_share self.now b o))) ⊛ ‵ (flft κ' s)))
     (lends_shr 𝓛 Plane (named 0) κ' full_share self.now b o Plane.lives
     ((the_row_laws item (param_laws 0 T laws)).shares 𝓛 self.now) ((κ', s) ∷
     []) (the_within item κ' within) (Incl-refl κ')) $ await ! tt $ split ! $ split ! $
-    -- [the plane, shared; the right to it; the token of κ'; self, open, in three entries; the way back to that of κT;
-    -- y; the locals]
+    -- Context: [the shared plane; the right to it; the token of κ'; self, open, in three parts; the way back to that
+    -- of κT; y; the locals]
     move ! (2 ∷ []) $ use1 𝓛 (‵ (flft κ' (Share.left s)) ⊛ ‵ (flft κ' (Share.right s))) (𝓛.lfts.lft_split κ' s) $ split
     ! $
     calls ! (0 ∷ 1 ∷ 2 ∷ []) run (height.ended T) (height.clauses T 𝓛 𝓜.mem 𝓡.returns)
@@ -93,16 +92,17 @@ row_mut_spec 𝓤 𝓛 𝓜 𝓡 wired T laws =
     raw (fact 𝓤 (r ≡ height_of (table_of self.now))) ∷ []) (λ r ws. id⊢ 𝓤 _) (λ v rows ws.
     fsplit ! $ feq_l ! (λ e. flt_l ! (λ fits. heard ! _
     (λ is_height. drop ! $ drop ! $ use2 𝓛 (‵ (flft κ' s)) (𝓛.lfts.lft_join κ' s) $
-    -- [the token of κ'; nothing; the right to the plane; self, open; the way back to the token of κT; y; the locals]
+    -- Context: [the token of κ'; nothing; the right to the plane; self, open; the way back to the token of κT; y; the
+    -- locals]
     move ! (0 ∷ 6 ∷ []) $ lft_over ! tt α κT qT $ move ! (0 ∷ 3 ∷ []) $ lent_back ! tt $
     move ! (0 ∷ 3 ∷ 4 ∷ 5 ∷ []) $ close_ref ! tt (mem Plane) self.now $ feq_i ! (List Val) (mut_vals self)
     (mut_vals self) refl $ fjoin3 ! $
     move ! (3 ∷ []) $ drop ! $
     lands_as ! (ap only e) refl (tt, record { fits = fits }) $
     sets ! (bin ! (get ! refl) (get ! refl) tt) refl (tt, tt) $
-    -- [self; the token of κ; that of κT; y; the locals]
+    -- Context: [self; the token of κ; that of κT; y; the locals]
     first ! $ branches ! (get ! refl)
-    -- below the rectangle the plane stays as it is
+    -- If y is not a visible row, the plane is unchanged.
     (λ below.
     sets ! (agg ! (and_then ! (lit ! tt) (no_more !))) refl (tt, (record { fits = lit< tt }, tt)) $
     returns_within ! Post refl (look_at ! 0 refl) $ free_all ! refl $
@@ -115,11 +115,11 @@ row_mut_spec 𝓤 𝓛 𝓜 𝓡 wired T laws =
     (tt, (tt, tt)) refl $
     let past : self.now.geometry.height ≤ y = omega (arith, leb→le rows y below, is_height) in
     frame ! $ tells ! (sym (no_row_below self.now y past)) $ tells ! (λ _. past, λ _. refl) $ told ! tt)
-    -- inside it the plane ends as the row that is lent says
+    -- Otherwise the final plane follows from the final row.
     (λ within_rows.
     skips ! $ exec ! 𝓣.C 𝓣.Λ (env function.locals l) (after 4 function.body) (at_ret _ Post) $
     sets ! (addr ! (through ! refl (stop !))) refl (tt, tt) $
-    -- [self; the token of κ; that of κT; y; the locals]
+    -- Context: [self; the token of κ; that of κT; y; the locals]
     let inside : y < self.now.geometry.height = omega (arith, nleb→lt rows y within_rows, is_height) in
     calls ! (1 ∷ 2 ∷ 0 ∷ 3 ∷ []) run (visible_row_mut.ended T) (visible_row_mut.clauses T 𝓛 𝓜.mem 𝓡.returns)
     (visible_row_mut_met.met 𝓤 𝓛 𝓜 𝓡 (code.calls-v_frame_plane::plane::Plane::visible_row_mut 𝓡.env wired) T laws)
@@ -131,7 +131,7 @@ row_mut_spec 𝓤 𝓛 𝓜 𝓡 wired T laws =
     (λ r ws. id⊢ 𝓤 _) (λ w r ws.
     spelt ! Row (λ s. slice_val s.ref_ptr (length s.now)) (λ _ _ is. is.0.0) r w (λ is_slice is.
     move ! (2 ∷ 3 ∷ 4 ∷ []) $ heard ! _ (λ value. heard ! _ (λ written. heard ! _ (λ wide.
-    -- [the row; how the plane ends; the tokens; nothing, twice; the locals]
+    -- Context: [the row; how the plane ends; the tokens; nothing, twice; the locals]
     let part = slice_val r.ref_ptr (length r.now) in let out = live 1 (of_list (part ∷ [])) in let fits = slice_fits
     is.0.1.0 in
     lands_as ! is_slice refl fits $

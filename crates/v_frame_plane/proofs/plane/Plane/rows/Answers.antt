@@ -1,4 +1,4 @@
--- The rows are those of the plane as it is lent.
+-- The rows are those of the borrowed plane.
 use Rattle.v_frame_plane.proofs.plane.Plane.rows.Goals as goal
 
 pub returns-clause-rows : goal.returns-clause-rows

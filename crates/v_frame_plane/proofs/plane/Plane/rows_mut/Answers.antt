@@ -1,4 +1,4 @@
--- The iterator's slice is the whole buffer, and calls from one end lend what was left, in order.
+-- The slice of the iterator is the whole buffer, and calls from one end lend the remaining rows in order.
 use Rattle.std.proofs.Common.{◌≡◌, refl, sym, ◌∙◌}
 use Rattle.v_frame_raster.specs.Raster.{Raster, raster, table_of}
 use Rattle.v_frame_plane.specs.RowsLeft.{rows_left}

@@ -1,4 +1,4 @@
--- All entries from the first visible pixel on are lent, and what is left there takes their place.
+-- All entries from the first visible pixel on are lent, and their final values replace them.
 use Rattle.std.proofs.Common.{◌≡◌, drop, refl, sym, ap, ◌∙◌}
 use Rattle.v_frame_raster.specs.Geometry.{origin_of}
 use Rattle.v_frame_raster.specs.Raster.{Raster, raster}

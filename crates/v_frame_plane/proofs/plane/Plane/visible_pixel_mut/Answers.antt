@@ -1,4 +1,4 @@
--- The entry that is lent is the table's pixel, and what is left there replaces it.
+-- The lent entry is the pixel of the table, and its final value replaces it.
 use Rattle.std.proofs.Common.{◌<◌, slice_get, refl, sym, ap, ◌∙◌, arith}
 use Rattle.v_frame_raster.specs.Raster.{Raster, raster}
 use Rattle.v_frame_plane.proofs.tables.Kept.{whole_with_entry}

@@ -1,4 +1,4 @@
--- All entries from the first pixel of the rectangle on are lent, and what is left there takes their place.
+-- All entries from the first pixel of the rectangle on are lent, and their final values replace them.
 use Rattle.std.proofs.Common.{◌≡◌, drop, refl, sym, ap, ◌∙◌}
 use Rattle.v_frame_buffer.specs.Part.{with_part}
 use Rattle.v_frame_raster.specs.Geometry.{IsInside, IsGeometry, alloc_size_of, origin_of, region_geometry, stride_of}

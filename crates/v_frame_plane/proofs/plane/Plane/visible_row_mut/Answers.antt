@@ -1,4 +1,4 @@
--- The part of the buffer that is lent is row y of the table, and a row left there replaces it.
+-- The lent part of the buffer is row y of the table, and its final value replaces it.
 use Rattle.std.proofs.Common.{◌<◌, Some, refl, sym, ap, ◌∙◌, arith}
 use Rattle.v_frame_raster.specs.Raster.{Raster, raster}
 use Rattle.v_frame_plane.proofs.tables.Kept.{whole_with_part}

@@ -1,4 +1,5 @@
--- The part that is lent is a row of the table, the other all that is after it, and what is left in the row replaces it.
+-- One lent part is a row of the table, the other one is everything after it, and the final value of the row replaces
+-- it.
 use Rattle.std.proofs.Common.{◌≤◌, ◌+◌, length, drop, refl, ◌∙◌, arith, length-drop}
 use Rattle.std.proofs.lemmas.List.{take_all}
 use Rattle.v_frame_raster.specs.Raster.{Raster, raster}

@@ -1,5 +1,5 @@
--- `two_parts` cuts a slice into its front and its back, and a part out of each, and lends both parts. Rattle follows no
--- part of a part, so this proof follows the code.
+-- `two_parts` splits a slice into its front and its back, cuts a part out of each, and lends both parts. Rattle
+-- cannot follow a part of a part, so this hand-written proof follows the code.
 use Rattle.v_frame_buffer.proofs.Steps.{ℕ, ◌≡◌, ◌+◌, ◌-◌, ◌≤◌, List, [], ◌∷◌, ◌++◌, length, take, list_drop, w64}
 use Rattle.v_frame_buffer.proofs.Steps.{MutBor, refl, ap, ◌∙◌, arith, length-drop, proved, sep, ◌⊑◌, fact, tables}
 use Rattle.v_frame_buffer.proofs.Steps.{usize, param, layouts, plain, uint_vals, Valss, MutSlice, slice_val, nothing}
@@ -20,7 +20,7 @@ use Rattle.v_frame_plane.proofs.lent.Cuts.{slices_fit, word_fits}
 use Rattle.v_frame_plane.proofs.plane.pairs.two_parts.Statement.{statement}
 use Rattle.v_frame_plane.proofs.plane.pairs.two_parts.Code as code
 
--- a part of the front is one of the whole
+-- A part of the front is a part of the whole.
 part_of_front : {X : Type 0} (xs : List X) (start width next : ℕ) → start + width ≤ next
     → take width (list_drop start (take next xs)) ≡ take width (list_drop start xs)
 part_of_front xs start width next order =
@@ -75,14 +75,14 @@ two_parts_spec 𝓤 𝓛 𝓜 𝓡 wired T laws =
         (word_fits are.1.1.0.1, (word_fits are.1.1.1.0.1, (word_fits are.1.1.1.1.0.1, tt))),
       ),
     ) $
-    -- [the slice; the tokens of κ and κT; the locals]
+    -- Context: [the slice; the tokens of κ and κT; the locals]
     sets ! (addr ! (from ! (fld ! refl (hop ! (look_in_at ! 1 (sub ! 0 refl (whole !))) (stop !))))) refl (tt, tt) $
     sets ! (agg ! (and_then ! (get ! refl) (and_then ! (get_in ! (fld ! refl (stop !)) (sub ! 1 refl (whole !)))
     (no_more !)))) refl (slice_fits are.0.0.1.0) $
     splits ! run 𝓜.mem 𝓡.returns T meets κ κT q qT bounds.0 lives x next are.1.1.1.0.1 (omega (arith, inside))
     (and_then ! (get ! refl) (and_then ! (get ! refl) (no_more !))) (λ front back front_is back_is front_fits back_fits.
     lands_as ! refl refl (slices_fit front_fits back_fits) $
-    -- [the front; the back; how the slice ends; the tokens; the locals]
+    -- Context: [the front; the back; how the slice ends; the tokens; the locals]
     sets ! (pointer_on ! (sub ! 0 refl (whole !)) refl) refl (tt, tt) $ sets !
     (slice_on ! (sub ! 0 refl (whole !)) refl refl) refl (slice_fits front_fits) $
     let front_long : length front.now ≡ next = ap length front_is ∙ length-take-le next x.now (omega (arith, inside)) in
@@ -92,15 +92,16 @@ two_parts_spec 𝓤 𝓛 𝓜 𝓡 wired T laws =
     lands_as ! refl refl (slices_fit above_fits rest_fits) $
     sets ! (pointer_on ! (sub ! 1 refl (whole !)) refl) refl (tt, tt) $ sets !
     (slice_on ! (sub ! 1 refl (whole !)) refl refl) refl (slice_fits rest_fits) $
-    -- [what is above; the rest; how the front ends; the tokens of κ and κT; the back; how the slice ends; the locals]
+    -- Context: [the part above; the rest; how the front ends; the tokens of κ and κT; the back; how the slice ends;
+    -- the locals]
     lets_go ! item κ above $
     move ! (1 ∷ 3 ∷ 4 ∷ []) $ splits ! run 𝓜.mem 𝓡.returns T meets κ κT q qT bounds.0 lives rest width are.1.1.0.1
     (omega (arith, order, front_long, ap length rest_is, length-drop start front.now))
     (and_then ! (get ! refl) (and_then ! (get ! refl) (no_more !)))
     (λ first between first_is between_is first_fits between_fits.
     lands_as ! refl refl (slices_fit first_fits between_fits) $
-    -- [the first part; what is between; how the rest ends; the tokens of κ and κT; what is above, as it ends; how the
-    -- front ends; the back; how the slice ends; the locals]
+    -- Context: [the first part; the part between; how the rest ends; the tokens of κ and κT; the part above, as it
+    -- ends; how the front ends; the back; how the slice ends; the locals]
     move ! (1 ∷ []) $ lets_go ! item κ between $
     sets ! (pointer_on ! (sub ! 1 refl (whole !)) refl) refl (tt, tt) $ sets !
     (slice_on ! (sub ! 1 refl (whole !)) refl refl) refl (slice_fits back_fits) $
@@ -109,8 +110,9 @@ two_parts_spec 𝓤 𝓛 𝓜 𝓡 wired T laws =
     (and_then ! (get ! refl) (and_then ! (get ! refl) (no_more !)))
     (λ second below second_is below_is second_fits below_fits.
     lands_as ! refl refl (slices_fit second_fits below_fits) $
-    -- [the second part; what is below; how the back ends; the tokens of κ and κT; what is between, as it ends; the
-    -- first part; how the rest ends; what is above, as it ends; how the front ends, and the slice; the locals]
+    -- Context: [the second part; the part below; how the back ends; the tokens of κ and κT; the part between, as it
+    -- ends; the first part; how the rest ends; the part above, as it ends; how the front ends, and the slice; the
+    -- locals]
     move ! (1 ∷ []) $ lets_go ! item κ below $
     sets ! (pointer_on ! (sub ! 0 refl (whole !)) refl) refl (tt, tt) $ sets !
     (slice_on ! (sub ! 0 refl (whole !)) refl refl) refl (slice_fits first_fits) $
@@ -145,8 +147,8 @@ two_parts_spec 𝓤 𝓛 𝓜 𝓡 wired T laws =
     tells ! (first_is ∙ ap (take width) of_rest ∙ part_of_front x.now start width next order) $ tells !
     (second_is ∙ ap (take other) back_is) $
     both_end ! item x.ghost_name (with_two_parts x.now start width next other) (λ p r.
-    -- [how both parts end; what is below, as it ends; how the back ends; what is between; how the rest ends; what is
-    -- above; how the front ends, and the slice]
+    -- Context: [how both parts end; the part below, as it ends; how the back ends; the part between; how the rest
+    -- ends; the part above; how the front ends, and the slice]
     move ! (5 ∷ 0 ∷ 4 ∷ []) $ joins ! item _ _ $ move ! (5 ∷ 4 ∷ 0 ∷ []) $ joins ! item _ _ $ move ! (3 ∷ 1 ∷ 2 ∷ []) $
     joins ! item _ _ $
     move ! (2 ∷ 1 ∷ 0 ∷ []) $ joins ! item _ _ $ rewrite ! 0 (λ ys. ‵ (EndsAs item x.ghost_name ys)) (written p r) refl

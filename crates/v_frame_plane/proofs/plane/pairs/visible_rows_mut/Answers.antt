@@ -1,4 +1,4 @@
--- The parts that are lent are two rows of the table, and what is left there replaces both.
+-- The lent parts are two rows of the table, and their final values replace them.
 use Rattle.std.proofs.Common.{◌<◌, refl, arith}
 use Rattle.v_frame_raster.specs.Raster.{Raster, raster}
 use Rattle.v_frame_raster.proofs.tables.OwnPlaces.{row_ends_above}

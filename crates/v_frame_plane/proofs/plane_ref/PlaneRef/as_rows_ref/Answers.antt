@@ -1,4 +1,4 @@
--- The visible rows lie a stride apart, from the origin on.
+-- The visible rows lie one stride apart, beginning at the origin.
 use Rattle.v_frame_raster.proofs.tables.Strides.{visible_fit, visible_are}
 use Rattle.v_frame_plane.proofs.plane_ref.PlaneRef.as_rows_ref.Goals as goal
 

@@ -1,4 +1,4 @@
--- The pixels are those of the rectangle, and each has two bytes at most.
+-- The pixels are those of the visible rectangle, and each has at most two bytes.
 use Rattle.std.proofs.Common.{◌≡◌, ◌*◌, refl, arith}
 use Rattle.v_frame_raster.specs.Table.{row_major}
 use Rattle.v_frame_raster.specs.Raster.{Raster, raster, table_of}

@@ -1,4 +1,4 @@
--- The entry at the place, which inside the rectangle is the table's pixel.
+-- The result is the entry at the index. Inside the visible rectangle, it is the pixel of the table.
 use Rattle.std.proofs.Common.{◌≡◌, ◌+◌, ◌≤◌, drop, slice_get, refl, ap, ◌∙◌, arith}
 use Rattle.v_frame_raster.specs.Geometry.{alloc_size_of, place_of}
 use Rattle.v_frame_raster.specs.Raster.{Raster, raster}

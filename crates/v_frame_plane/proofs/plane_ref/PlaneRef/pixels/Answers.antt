@@ -1,4 +1,4 @@
--- Calls from one end give what was left, in order.
+-- Calls from one end yield the remaining pixels in order.
 use Rattle.v_frame_plane.proofs.iterators.WalkRuns.{gives_in_order, gives_in_reverse}
 use Rattle.v_frame_plane.proofs.plane_ref.PlaneRef.pixels.Goals as goal
 

@@ -1,4 +1,4 @@
--- It shows its rectangle of all rows of the buffer.
+-- The region shows its rectangle of all rows of the buffer.
 use Rattle.v_frame_raster.specs.Raster.{Raster, raster}
 use Rattle.v_frame_raster.proofs.SignedPlaces.{as_it_is}
 use Rattle.v_frame_raster.proofs.tables.Regions.{buffer_region_shows}

@@ -1,4 +1,4 @@
--- Calls from one end give what was left, in order.
+-- Calls from one end yield the remaining rows in order.
 use Rattle.v_frame_plane.proofs.iterators.WalkRuns.{shows_in_order, shows_in_reverse}
 use Rattle.v_frame_raster.proofs.tables.Places.{rows_are_wide}
 use Rattle.std.specs.Map.Iter.{deref}

@@ -1,4 +1,4 @@
--- The entry at the place of a visible pixel is the table's pixel.
+-- The entry at the index of a visible pixel is the pixel of the table.
 use Rattle.std.proofs.Common.{◌<◌, length, sym, ◌∙◌, arith}
 use Rattle.std.proofs.lemmas.Option.{slice_get-get_or}
 use Rattle.v_frame_raster.specs.Raster.{Raster, raster}

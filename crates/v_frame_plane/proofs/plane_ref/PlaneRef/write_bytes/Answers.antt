@@ -1,4 +1,4 @@
--- The rows of bytes have nothing between them, so joined they are the list.
+-- The rows of bytes have no gaps between them, so they make up the list.
 use Rattle.std.proofs.Common.{ℕ, ◌≡◌, ◌*◌, ◌<◌, sym, ◌∙◌, ap, arith}
 use Rattle.std.proofs.Math.Nat.{mul_assoc, mul_comm, mul-lt-mul_of_pos_right}
 use Rattle.v_frame_raster.specs.Raster.{Raster, table_of}
@@ -6,7 +6,7 @@ use Rattle.v_frame_raster.specs.Table.{row_major}
 use Rattle.v_frame_raster.proofs.tables.PackedRows.{packed_rows, packed_fit, joined_bytes}
 use Rattle.v_frame_plane.proofs.plane_ref.PlaneRef.write_bytes.Goals as goal
 
--- so many bytes are those of a row, times the rows
+-- The number of bytes is the number of bytes of a row times the number of rows.
 by_rows : (bytes width height size w h s : ℕ) → bytes ≡ width * height * size → w ≡ width → h ≡ height → s ≡ size
     → bytes ≡ s * w * h
 by_rows bytes width height size w h s is wide high sized =

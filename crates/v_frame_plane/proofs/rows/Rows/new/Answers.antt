@@ -1,4 +1,4 @@
--- The rows ahead of the origin are the visible ones, and lie in the buffer.
+-- The rows ahead of the origin are the visible rows, and lie in the buffer.
 use Rattle.std.proofs.Common.{◌≡◌, ◌-◌, length, sym, ◌∙◌, ap, arith}
 use Rattle.v_frame_raster.specs.Geometry.{alloc_size_of}
 use Rattle.v_frame_raster.specs.Raster.{raster}

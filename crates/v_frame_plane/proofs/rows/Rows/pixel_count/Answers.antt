@@ -1,4 +1,4 @@
--- Each row that is left has all its width.
+-- Each remaining row has its full width.
 use Rattle.std.proofs.Common.{refl}
 use Rattle.v_frame_plane.specs.Cursor.{rows_ahead}
 use Rattle.v_frame_plane.proofs.iterators.Cursors.{count_of_rows, rows_are_long, pixels_of_rows}

@@ -1,4 +1,5 @@
--- The rows ahead of the origin are the visible ones, and lie in the buffer. Others in their place are the table.
+-- The rows ahead of the origin are the visible rows, and lie in the buffer. If other rows replace them, these are the
+-- table.
 use Rattle.v_frame_plane.specs.RowsLeft.{rows_left}
 use Rattle.v_frame_plane.specs.FinalRows.{WritesEachTable}
 use Rattle.std.proofs.Common.{◌-◌, arith}

@@ -1,4 +1,4 @@
--- `next` takes the first of the rows that are left.
+-- `next` takes the first of the remaining rows.
 use Rattle.v_frame_buffer.proofs.Steps.{[], ◌∷◌, a_type, layouts}
 use Rattle.core.proofs.slice.slice+T.split_at_mut.Met as split_met
 use Rattle.v_frame_plane.specs.contracts.rows_mut.RowsMut.next.Key as next

@@ -1,4 +1,4 @@
--- What is known of rows that fit.
+-- Facts about rows that fit.
 use Rattle.std.proofs.Common.{sym, arith}
 use Rattle.v_frame_raster.proofs.tables.Strides.{AreRows, height_is, width_is, pixels_fit}
 use Rattle.v_frame_plane.proofs.rows_ref.RowsRef.height.Goals as goal

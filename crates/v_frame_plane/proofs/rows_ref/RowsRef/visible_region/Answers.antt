@@ -1,4 +1,4 @@
--- The rectangle is rows of the same stride, from its corner on.
+-- The rectangle consists of rows with the same stride, beginning at its upper left corner.
 use Rattle.std.proofs.Common.{◌∙◌, ap, arith}
 use Rattle.v_frame_raster.specs.StridedRows.{strided_rows}
 use Rattle.v_frame_raster.proofs.tables.Strides.{AreRows, part_begins, part_fits, part_is}

@@ -1,4 +1,4 @@
--- What is known of rows that fit.
+-- Facts about rows that fit.
 use Rattle.std.proofs.Common.{sym}
 use Rattle.v_frame_raster.proofs.tables.Strides.{AreRows, width_is, rows_are_wide}
 use Rattle.v_frame_plane.proofs.rows_ref.RowsRef.width.Goals as goal

@@ -1,4 +1,4 @@
--- The size is exact, or cut to what can be counted, which is too large as well.
+-- The size is exact or saturated. A saturated size is above the limit too.
 use Rattle.std.proofs.Common.{◌<◌, arith}
 use Rattle.std.proofs.lemmas.Grind.{common_steps}
 use Rattle.v_frame_raster.proofs.Plans.{counted_size}

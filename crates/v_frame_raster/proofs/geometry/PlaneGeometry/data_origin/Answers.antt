@@ -1,4 +1,4 @@
--- The origin is that of the fields, and lies in the buffer.
+-- The origin is computed from the fields, and lies in the buffer.
 use Rattle.std.proofs.Common.{arith}
 use Rattle.v_frame_raster.proofs.Plans.{origin_by_stride}
 use Rattle.v_frame_raster.proofs.geometry.PlaneGeometry.data_origin.Goals as goal

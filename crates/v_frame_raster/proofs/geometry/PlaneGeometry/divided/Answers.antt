@@ -1,4 +1,4 @@
--- Each number divides, or the first that does not is reported.
+-- All numbers are divisible, or the first that is not is reported.
 use Rattle.std.proofs.Common.{arith}
 use Rattle.std.proofs.lemmas.Grind.{common_steps}
 use Rattle.v_frame_raster.proofs.geometry.PlaneGeometry.divided.Goals as goal

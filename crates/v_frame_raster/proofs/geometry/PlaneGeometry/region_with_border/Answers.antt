@@ -1,4 +1,4 @@
--- The column and the row are counted from the edge of the buffer, or are none of it.
+-- The column and the row are counted from the edge of the buffer, or do not lie in it.
 use Rattle.std.proofs.Common.{◌≡◌, ap, to_z, of_z, w64}
 use Rattle.v_frame_raster.specs.Geometry.{Geometry}
 use Rattle.v_frame_raster.proofs.SignedPlaces.{as_it_is, column_fits, row_fits, some_if}

@@ -1,4 +1,4 @@
--- What is inside fits, and the buffer stays as large.
+-- A rectangle inside the visible one fits, and the size of the buffer is unchanged.
 use Rattle.std.proofs.Common.{arith}
 use Rattle.std.proofs.lemmas.Grind.{common_steps}
 use Rattle.v_frame_raster.proofs.geometry.PlaneGeometry.visible_region.Goals as goal

@@ -1,4 +1,4 @@
--- The pixels so far are those of the bytes so far.
+-- The pixels so far are decoded from the bytes so far.
 use Rattle.std.proofs.Common.{◌*◌}
 use Rattle.v_frame_raster.proofs.Decoding.{DecodedUpTo}
 use Rattle.v_frame_raster.proofs.pixel.U16Pixel.decode_row.Given as goal

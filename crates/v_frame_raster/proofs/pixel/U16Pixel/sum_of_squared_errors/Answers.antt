@@ -1,4 +1,4 @@
--- No pair adds more than values of 16 bits can.
+-- No pair adds more than two values of 16 bits can add.
 use Rattle.std.proofs.Common.{arith, w16}
 use Rattle.v_frame_raster.proofs.SumsOfPairs.{squares-at_most}
 use Rattle.v_frame_raster.proofs.pixel.U16Pixel.sum_of_squared_errors.Goals as goal

@@ -1,4 +1,4 @@
--- `slice` shows the entries that the `&` to the cells reaches. Assumes `Logic`.
+-- `slice` returns the entries that the `&` to the cells reaches. Assumes `Logic`.
 use Rattle.v_frame_buffer.proofs.Steps.{◌≡◌, refl, sym, ap, ◌∙◌, ◌+◌, ◌*◌, ◌^◌, ◌<◌, arith, List, [], ◌∷◌, length}
 use Rattle.v_frame_buffer.proofs.Steps.{a_type, named, w64, inst_fn, Val, id⊢, Lft, Fml, tables, ‵, at_ret, ◌$◌, ! }
 use Rattle.v_frame_buffer.proofs.Steps.{keep, drop, fsplit, fjoin, feq_i, rewrite, whole, sub, agg, stop, fld, of_opd}
@@ -47,7 +47,7 @@ slice_spec 𝓤 𝓛 𝓜 𝓡 wired T L =
     alloc_all ! (λ l. pass_all ! refl (_, (word-Good [] a.1.0.ptr, ((tt, record { fits = fits }), tt))) $
     unhide ! $ fsplit ! $ drop ! $ in_a_block ! d.at (λ p. cells_lent R p xs d.spare κs.0) (id⊢ 𝓤 (never 𝓤))
     (λ b o e. fsplit ! $ flt_l ! (λ small.
-    -- [the entries, lent; the tokens; the locals]
+    -- Context: [the lent entries; the tokens; the locals]
     let v = slice_val (b, o) len in first ! $ blocks ! $
     sets ! (is ! (of_opd ! (get_in ! (fld ! refl (stop !)) (sub ! 0 refl (whole !)))) (ap ptr_val (begins ∙ e))) refl _
     $

@@ -1,5 +1,5 @@
--- `slice_mut` lends a part of the entries as a slice, and the cells end with what that shows last in the part's place.
--- Assumes `Logic`.
+-- `slice_mut` lends a part of the entries as a slice. The final cells have the final value of the slice in place of
+-- this part. Assumes `Logic`.
 use Rattle.v_frame_buffer.proofs.Steps.{◌≡◌, refl, sym, ap, ◌∙◌, ◌+◌, ◌-◌, ◌*◌, ◌^◌, ◌<◌, ◌≤◌, arith, List, [], ◌∷◌}
 use Rattle.v_frame_buffer.proofs.Steps.{length, take, list_drop as drop, vint, length-drop, a_type, named, w64, inst_fn}
 use Rattle.v_frame_buffer.proofs.Steps.{vptr, id⊢, fat, flft, full_share, tables, ‵, ◌⊛◌, some, later, at_ret, ◌$◌, ! }
@@ -60,12 +60,12 @@ slice_mut_spec 𝓤 𝓛 𝓜 𝓡 wired T L =
         ((tt, record { fits = start_fits }), ((tt, record { fits = end_fits }), tt)),
       ),
     ) $
-    -- [what the name is seen at; the borrow; the tokens of κ and of the entries; the locals]
+    -- Context: [the observed value of the name; the borrow; the tokens of κ and of the entries; the locals]
     opens ! tt (Cells R) {h = d} rb ro (λ vs. move ! (1 ∷ []) $ fsplit ! $ move ! (1 ∷ []) $
     in_a_block ! d.at (λ p. cells_own R p xs d.spare) (id⊢ 𝓤 (never 𝓤))
     (λ b o e. fsplit ! $ flt_l ! (λ small. fsplit ! $
-    -- [the entries; the room; the marker; its cell; the three parts of the borrow, which is open; the other token; the
-    -- locals]
+    -- Context: [the entries; the uninitialized memory; the marker; its cell; the three parts of the borrow, which is
+    -- open; the other token; the locals]
     let part = take n (drop start xs) in let at = parts.from R d start o in
     let within : start + n ≤ length xs = omega (arith, ordered, inside) in
     let count : length part ≡ n = length-take-le n (drop start xs) (omega (arith, within, length-drop start xs)) in
@@ -102,6 +102,6 @@ slice_mut_spec 𝓤 𝓛 𝓜 𝓡 wired T L =
     (λ ws same. parts.part_in R d start b o n 𝓛 vs rb ro e small within ws (same ∙ count)) code code) $ await ! tt $
     pick ! (λ δ.
     returns ! (look_at ! 0 refl) $ free_all ! refl $ split3 ! $
-    -- [the slice; the token of κ; how the cells follow its last list; the other token]
+    -- Context: [the slice; the token of κ; how the cells follow its last list; the other token]
     nothing ! $ nothing ! $ nothing ! $ nothing ! $
     ends ! (5 ∷ 7 ∷ 0 ∷ 1 ∷ 2 ∷ 3 ∷ 4 ∷ 6 ∷ []) En stayed c y v (slice δ) _ _ refl $ says ! refl $ done !)))))))

@@ -1,4 +1,4 @@
--- `write_next` makes the first place of the room an entry after the others. Assumes `Logic`.
+-- `write_next` turns the first uninitialized place into an entry after the others. Assumes `Logic`.
 use Rattle.v_frame_buffer.proofs.Steps.{◌≡◌, refl, sym, ap, ◌∙◌, ℕ, ◌+◌, ◌-◌, ◌*◌, ◌^◌, ◌<◌, arith, List, [], ◌∷◌, ◌++◌}
 use Rattle.v_frame_buffer.proofs.Steps.{length, a_type, inst_fn, Val, vptr, full_share, SProp, id⊢, fat, tables, ‵}
 use Rattle.v_frame_buffer.proofs.Steps.{prop, ◌⊛◌, at_ret, ◌$◌, !, move, keep, split, use1, use2, fsplit, fsplit3}
@@ -43,7 +43,7 @@ write_next_spec 𝓤 𝓛 𝓜 𝓡 wired T L =
     let κs = y.0.0 in let a = y.0.3 in let vss = y.0.4 in let d = a.0.now in let xs = d.items in let place = a.1.1.0 in
     let x = a.1.1.1.0 in
     let rb = a.0.ref_ptr.0 in let ro = a.0.ref_ptr.1 in let Post : Val → SProp 𝓤 = (walk_of 𝓛 En stayed c).post y in
-    -- x is one machine value v
+    -- x has a single machine value v.
     let one = one_of (record { row = T; laws = L }) vss.1.1.1.0 ((LR.lawful 𝓛).typed x vss.1.1.1.0 are.1.1.1.0) in let
     v = one.0 in let good = one.2 in
     let base_is = (lowers R LR).val_is a.1.0 vss.1.0 are.1.0 in
@@ -54,12 +54,13 @@ write_next_spec 𝓤 𝓛 𝓜 𝓡 wired T L =
     (λ i. are.0.0 i ++ (base_is i ++ (are.1.1.0.0 i ++ (one.1 i ++ [])))) refl $
     enter ! _ _ _ _ _ $ alloc_all ! (λ l. pass_all ! refl
     (_, (word-Good [] a.1.0.ptr, ((tt, record { fits = are.1.1.0.1 }), (good, tt)))) $
-    -- [what the name is seen at; the borrow; the token; what x owns; the other token; the locals]
+    -- Context: [the observed value of the name; the borrow; the token; the resources of x; the other token; the
+    -- locals]
     opens ! tt (Cells R) {h = d} rb ro (λ vs. move ! (1 ∷ []) $ fsplit ! $ move ! (1 ∷ []) $
     in_a_block ! d.at (λ p. cells_own R p xs d.spare) (id⊢ 𝓤 (never 𝓤))
     (λ b o e. fsplit ! $ flt_l ! (λ small. fsplit ! $ move ! (1 ∷ []) $
-    -- [the room; the entries; the marker; its cell; the three parts of the borrow, which is open; what x owns; the
-    -- other token; the locals]
+    -- Context: [the uninitialized memory; the entries; the marker; its cell; the three parts of the borrow, which is
+    -- open; the resources of x; the other token; the locals]
     let left = d.spare - 1 in let more : suc left ≡ d.spare = omega (arith, asked.2) in
     let far : place * s < 2 ^ 64 = omega (
       arith,
@@ -77,7 +78,7 @@ write_next_spec 𝓤 𝓛 𝓜 𝓡 wired T L =
     use1 𝓛 (‵ (froom τ b at) ⊛ ‵ (room_at R b (at + s) left)) (first_place R 𝓛 b at left) $ split ! $
     take_at ! 2 $ rewrite ! 0 (λ (p : Ptr). ‵ (fat full_share (layout (Base R)) (l 2) 0 (word p))) (asked.0 ∙ e) refl $
     give_at ! 2 $
-    -- [the place; the room after it; the entries; ..]
+    -- Context: [the place; the uninitialized memory after it; the entries; ..]
     first ! $ blocks ! $ sets ! (counted ! place far (get ! refl)) refl (tt, record { fits = far }) $
     sets ! (bin ! (get_in ! (fld ! refl (stop !)) (sub ! 0 refl (whole !))) (get ! refl) tt) refl _ $
     sets ! (of_opd ! (get ! refl)) refl good $ assigns_last ! (of_opd ! (get ! refl)) (through ! refl (stop !))
@@ -86,14 +87,14 @@ write_next_spec 𝓤 𝓛 𝓜 𝓡 wired T L =
     move ! (0 ∷ 8 ∷ []) $ use2 𝓛 (‵ (part_at R full_share x b at)) (part_in 𝓛 R refl full_share x b at v) $
     move ! (2 ∷ 0 ∷ []) $ use2 𝓛 (‵ (entries_at R b o ys))
     (put_last R 𝓛 b xs x o at (ap (λ n. n * s + o) (sym asked.1))) $
-    -- [the entries, x after them; the room; the marker; its cell; the three parts of the borrow, which is open; the
-    -- other token; the locals]
+    -- Context: [the entries with x at the end; the uninitialized memory; the marker; its cell; the three parts of the
+    -- borrow, which is open; the other token; the locals]
     move ! (1 ∷ []) $ rewrite ! 0 (λ (n : ℕ). ‵ (room_at R b n left)) beyond refl $
     move ! (1 ∷ 0 ∷ []) $ fjoin ! $ flt_i ! ((length ys + left) * s) (2 ^ 63) (subst (λ n. n * s < 2 ^ 63) same small)
     $ fjoin ! $
     rewrite ! 0 (λ (p : Ptr). ‵ (cells_own R p ys left)) (sym e) refl $ move ! (1 ∷ 0 ∷ []) $ fjoin ! $
     move ! (1 ∷ 0 ∷ []) $ closes ! tt (Cells R) new vs rb ro $ returns ! (look_at ! 0 refl) $ free_all ! refl $
-    -- [what the name is seen at; the borrow; the tokens]
+    -- Context: [the observed value of the name; the borrow; the tokens]
     feq_i ! (List Val) vss.0 (vptr rb ro ∷ []) are.0.0 $ fjoin3 ! $ feq_i ! (List Val) (vunit ∷ []) (vunit ∷ []) refl $
     nothing ! $ nothing ! $ nothing ! $
     ends ! (5 ∷ 6 ∷ 4 ∷ 0 ∷ 1 ∷ 2 ∷ 3 ∷ []) En stayed c y vunit tt (new, _) _ refl $

@@ -1,4 +1,4 @@
--- A `&` to a deed holds nothing. Assumes `Logic`.
+-- A `&` to a deed owns nothing. Assumes `Logic`.
 use Rattle.v_frame_buffer.proofs.Steps.{RattleType, Laws, RawPtr, copy_shared, nothing_shr_laws, field_copy, of_Lends}
 use Rattle.v_frame_buffer.proofs.Steps.{Lends-nothing}
 use Rattle.core.specs.declared.alloc.Allocator.{Ghosts}

@@ -1,4 +1,4 @@
--- One more entry is written, and there is room for one fewer.
+-- One more entry is written, and there is memory for one fewer.
 use Rattle.std.proofs.Common.{◌+◌, length, sym, ◌∙◌, ap, arith}
 use Rattle.std.proofs.lemmas.List.{length_push}
 use Rattle.v_frame_buffer.specs.Filling.{Filled}

@@ -1,4 +1,4 @@
--- The values are as many as the entries that held them.
+-- The number of values is the number of entries that held them.
 use Rattle.std.proofs.Common.{length, ap, ◌∙◌}
 use Rattle.std.proofs.lemmas.List.{length-map}
 use Rattle.v_frame_plane.proofs.plane.options.Plane+Option+T.assume_init.Goals as goal
