@@ -114,7 +114,7 @@ peel rest byte bytes small =
     ∙ fold-xor bytes (divided 8 low) (rest / 256)
     ∙ ap (λ x. bit_xor x (fold crc_step (rest / 256) bytes)) (divided-add 8 (8 * length bytes) low)
 
--- Eight bytes, where the remainder is added to the first four.
+-- Eight bytes. The remainder is added to the first four.
 pub eight : (rest a b c d e f g h : ℕ) → rest < 2 ^ 32 → a < 256 → b < 256 → c < 256 → d < 256 → e < 256 → f < 256
     → g < 256 → h < 256
     → fold crc_step rest (a ∷ b ∷ c ∷ d ∷ e ∷ f ∷ g ∷ h ∷ [])

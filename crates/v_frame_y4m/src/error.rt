@@ -57,7 +57,7 @@ pub enum Y4mError {
     /// The stream ended inside a line.
     #[error("the stream ends inside a line")]
     UnfinishedLine,
-    /// A line that does not begin a frame is at a place where a `FRAME` line is required.
+    /// A `FRAME` line is required, but the stream has another line.
     #[error("no FRAME where a frame is due")]
     NoFrame,
     /// The bytes of a frame were not read or written whole: the stream ended, a read or a write failed, or a memory allocation

@@ -66,7 +66,7 @@ impl StreamHeader {
     }
 }
 
-/// Returns the number of bytes of a chroma plane beside a luma plane of `width` by `height` pixels, at `pixel` bytes for each
+/// Returns the number of bytes of a chroma plane of a frame of `width` by `height` luma pixels, at `pixel` bytes for each
 /// pixel. The number is 0 if the format has no chroma.
 fn chroma_len(
     width: usize,

@@ -29,7 +29,7 @@ pub const MAX_LINE_BYTES: usize = 1024;
 ///
 /// - [`Y4mError::LineTooLong`] if the first 1025 bytes contain no line feed.
 /// - [`Y4mError::UnfinishedLine`] if the stream ends before a line feed.
-/// - [`Y4mError::Header`] if the line is not a valid header.
+/// - [`Y4mError::Header`] if the line is not a valid header, or if a memory allocation fails.
 /// - [`PlanarError::Read`] in [`Y4mError::Planar`] if a read fails. An interrupted read counts as failed and is not retried.
 ///   [`Counted::last_failure`] returns the cause.
 pub fn read_header<R: io::Read>(
