@@ -35,7 +35,7 @@ use v_frame::pixel::Pixel;
 ///
 /// # Errors
 ///
-/// Before anything is read:
+/// These errors are returned before anything is read:
 ///
 /// - [`OtherSize`](crate::Problem::OtherSize), [`OtherChroma`](crate::Problem::OtherChroma) or
 ///   [`OtherDepth`](crate::Problem::OtherDepth), reported for the second stream, if the formats of the streams differ.
@@ -44,7 +44,7 @@ use v_frame::pixel::Pixel;
 /// - [`TooLarge`](crate::Problem::TooLarge) if the planes of a frame are too large for the address space.
 /// - [`OutOfMemory`](crate::Problem::OutOfMemory) if a memory allocation fails.
 ///
-/// While the streams are read:
+/// These errors are returned while the streams are read:
 ///
 /// - [`Stream`](crate::Problem::Stream) if a frame cannot be read whole.
 /// - Any error that `observer` returns.

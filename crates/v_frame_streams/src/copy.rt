@@ -44,7 +44,7 @@ use v_frame_y4m::StreamHeader;
 ///
 /// # Errors
 ///
-/// Before anything is read or written:
+/// These errors are returned before anything is read or written:
 ///
 /// - [`Problem::EmptyCrop`], [`Problem::CropOutside`] or [`Problem::CropMisaligned`] if the crop does not fit the frames.
 /// - [`Problem::SemiPlanar`] if `sink` is a YUV4MPEG2 stream and the output format is semi-planar.
@@ -53,8 +53,9 @@ use v_frame_y4m::StreamHeader;
 /// - [`Problem::TooLarge`] if the planes of such a frame are too large for the address space.
 /// - [`Problem::OutOfMemory`] if a memory allocation fails.
 ///
-/// Afterwards [`Problem::Stream`] if a frame cannot be read whole, or if a write fails. The output then ends where the failure
-/// happened.
+/// This error is returned during the copy, and part of the output may have been written:
+///
+/// - [`Problem::Stream`] if the header line cannot be written, if a frame cannot be read whole, or if a write fails.
 pub fn copy_stream<R: io::Read, W: io::Write, P: Progress>(
     alloc: Global,
     source: &mut Source<R>,

@@ -35,7 +35,7 @@ impl CopyOptions {
     ghost use Rattle.v_frame_streams.specs.Conversions.{color_in, layout_in, layout_to};
     ghost use Rattle.v_frame_streams.specs.Copies.{is_plain};
 
-    /// Returns the options that copy all frames unchanged. [`MAX_PIXELS`] is the limit of luma pixels.
+    /// Returns the options that copy all frames unchanged, with [`MAX_PIXELS`] as the limit of luma pixels.
     pub fn new() -> Self
         ensures { result ≡ record {
           skip = 0;

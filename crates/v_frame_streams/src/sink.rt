@@ -20,7 +20,7 @@ use v_frame_planar::{Counted, PlanarError, WriteFault};
 use v_frame_semi_planar::{SemiPlanarError, SemiPlanarFormat, write_frame};
 use v_frame_y4m::{StreamHeader, Y4mError, write_header};
 
-/// A stream that is written.
+/// A stream that is written, frame by frame.
 #[derive(Drop)]
 pub struct Sink<W> {
     /// The container of the stream.

@@ -18,7 +18,7 @@ use v_frame_planar::{Counted, PlanarError, read_until_full};
 use v_frame_semi_planar::SemiPlanarFormat;
 use v_frame_y4m::{StreamHeader, Y4mError, read_lax_frame_line, read_lax_header};
 
-/// A stream that is read. Its header is already known.
+/// A stream that is read, frame by frame. Its header is already known.
 #[derive(Drop)]
 pub struct Source<R> {
     place: Place,
@@ -45,8 +45,8 @@ impl<R: io::Read> Source<R> {
 
     /// Opens a YUV4MPEG2 stream: reads the header line, strict or lax, and leaves the frames to be read.
     ///
-    /// `place` is the stream that errors name. The bytes after the header line are read through a buffer, so more bytes than
-    /// the line may be taken from `reader`.
+    /// Errors of this stream report `place` as the stream in which they happened. The reader is buffered, so more bytes than
+    /// the header line may be read from it.
     ///
     /// # Errors
     ///
@@ -81,13 +81,13 @@ impl<R: io::Read> Source<R> {
     /// Opens headerless raw video. `header` describes its frames, and `layout` is their semi-planar layout, or `None` if they
     /// are planar. Nothing is read.
     ///
-    /// `place` is the stream that errors name.
+    /// Errors of this stream report `place` as the stream in which they happened.
     ///
     /// # Errors
     ///
     /// The first of these that applies:
     ///
-    /// - [`Problem::OtherLayout`] if `layout` has another chroma subsampling or bit depth than `header`.
+    /// - [`Problem::OtherLayout`] if the chroma subsampling or the bit depth of `layout` differs from that of `header`.
     /// - [`Problem::TooLarge`] if a frame has no bytes, or more than `usize::MAX`.
     /// - [`Problem::OutOfMemory`] if a memory allocation fails.
     pub fn raw(
