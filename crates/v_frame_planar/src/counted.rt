@@ -115,7 +115,8 @@ impl<D: io::Read> Counted<D> {
     ///
     /// # Errors
     ///
-    /// The error of the reader.
+    /// The error of the reader, or [`InvalidData`](io::ErrorKind::InvalidData) if the reader claims to have read more bytes than
+    /// `buf` holds.
     pub fn read(&mut self, buf: &mut [u8]) -> io::Result<usize>
         ensures bound { ReadsAtMost result buf.new }
         ensures bytes { ReadConsumes (D.remaining self.old.inner) (D.remaining self.new.inner)
@@ -125,7 +126,10 @@ impl<D: io::Read> Counted<D> {
         ensures told { MatchResult result (λ _. self.new.last_failure ≡ self.old.last_failure)
             (λ error. self.new.last_failure ≡ Some (error_kind error)) }
     {
-        let result = self.inner.read(buf);
+        let result = match self.inner.read(buf) {
+            Ok(count) if count > buf.len() => Err(io::Error::from(io::ErrorKind::InvalidData)),
+            result => result,
+        };
         self.note(&result);
         result
     }
@@ -136,7 +140,8 @@ impl<D: io::Write> Counted<D> {
     ///
     /// # Errors
     ///
-    /// The error of the writer.
+    /// The error of the writer, or [`InvalidData`](io::ErrorKind::InvalidData) if the writer claims to have written more bytes
+    /// than `buf` holds.
     pub fn write(&mut self, buf: &[u8]) -> io::Result<usize>
         ensures bound { WritesAtMost result buf.now }
         ensures bytes { WriteAppends (D.contents self.old.inner) (D.contents self.new.inner)
@@ -146,7 +151,10 @@ impl<D: io::Write> Counted<D> {
         ensures told { MatchResult result (λ _. self.new.last_failure ≡ self.old.last_failure)
             (λ error. self.new.last_failure ≡ Some (error_kind error)) }
     {
-        let result = self.inner.write(buf);
+        let result = match self.inner.write(buf) {
+            Ok(count) if count > buf.len() => Err(io::Error::from(io::ErrorKind::InvalidData)),
+            result => result,
+        };
         self.note(&result);
         result
     }
