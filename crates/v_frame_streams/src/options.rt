@@ -20,7 +20,8 @@ pub struct CopyOptions {
     pub crop: Option<Rectangle>,
     /// Whether to halve the width and the height of the rectangle that is kept, rounded up.
     pub half: bool,
-    /// The chroma subsampling, the bit depth and the layout of the output. `None` keeps those of the source.
+    /// The chroma subsampling, the bit depth and the layout of the output. `None` keeps those of the source, but a YUV4MPEG2
+    /// stream always gets planar frames.
     pub format: Option<VideoFormat>,
     /// The frame rate to write in the header. `None` keeps the rate of the source.
     pub frame_rate: Option<Ratio>,

@@ -1,7 +1,7 @@
 //! Lax lines: deviations of some writers that are accepted, and the strict line that each lax line means.
 //!
-//! A lax line may end in a carriage return, may have more than one space between two pieces or a space at its end, and may give
-//! the frame rate without its denominator, as in `F25`. All other deviations are rejected.
+//! A lax line may end in a carriage return, may have more than one space between two pieces or spaces at either end, and may
+//! give the frame rate without its denominator, as in `F25`. All other deviations are rejected.
 ghost use Rattle.std.specs.Prelude.{◌≡◌, ◌↔◌, IfOk, IfErr, IsTrue, MatchResult, OnOk};
 ghost use Rattle.v_frame_y4m.specs.Faults.{IsRefusedFor};
 ghost use Rattle.v_frame_y4m.specs.Header.{texts_of, IsHeader, IsWritable};
@@ -83,7 +83,7 @@ pub fn parse_lax_header(alloc: Global, line: &[u8]) -> Result<(StreamHeader, boo
 }
 
 /// Returns the strict line that a header line means. `line` has no line feed. One carriage return at its end is removed,
-/// several spaces become one, spaces at the end are removed, and a frame rate of a single number above 0 gets the denominator
+/// several spaces become one, spaces at both ends are removed, and a frame rate of a single number above 0 gets the denominator
 /// 1.
 ///
 /// # Errors
