@@ -116,8 +116,7 @@ impl<T: Pixel> Picture<T> {
             && has_sizes(&self.frame, source.header())
     }
 
-    /// Reads the next frame of `source` into `frame`. Returns `false` if `source`
-    /// was at its end.
+    /// Reads the next frame of `source` into `frame`. Returns `false` if `source` is at its end.
     ///
     /// The picture must match the frames of `source`, which [`is_made_for`](Self::is_made_for) tests. It does if it was made
     /// for `source`, or for a stream with the same size and color.
@@ -150,8 +149,8 @@ impl<T: Pixel> Picture<T> {
         Ok(true)
     }
 
-    /// Skips `before` frames of `source` and reads the next one into `frame`, like `Iterator::nth`. Returns
-    /// `false` if `source` has no frame after the skipped ones. It is then at its end.
+    /// Skips `before` frames of `source` and reads the next frame into `frame`, like `Iterator::nth`. Returns `false` if
+    /// `source` has no frame after the skipped ones. It is then at its end.
     ///
     /// The picture must match the frames of `source`, as for [`read`](Self::read).
     ///
