@@ -1,4 +1,4 @@
-//! Frames of 4 columns and 2 rows in 4:2:0.
+//! Calls on 4:2:0 frames of 4 columns and 2 rows.
 
 use crate::text::push_plane;
 use std::alloc::Global;
@@ -13,7 +13,7 @@ use v_frame_turn::frames::{
     flip_horizontal_in_place, flip_vertical_in_place, rotate_180_in_place, turn_frame,
 };
 
-/// Returns a frame whose planes show these bytes. `None` where there is no memory.
+/// Returns a frame whose planes have these bytes, or `None` if a memory allocation fails.
 pub fn frame<T: Pixel>(alloc: Global, bit_depth: u8, planes: [&[u8]; 3]) -> Option<Frame<T>> {
     let builder = FrameBuilder::new(4, 2, ChromaSubsampling::Yuv420, bit_depth).luma_padding_left(
         2,
@@ -25,12 +25,12 @@ pub fn frame<T: Pixel>(alloc: Global, bit_depth: u8, planes: [&[u8]; 3]) -> Opti
     Some(frame)
 }
 
-/// Returns a frame of one byte a pixel, whose luma begins with 64 and 255.
+/// Returns a frame of 8-bit pixels whose luma begins with 64 and 255.
 pub fn mask(alloc: Global) -> Option<Frame<u8>> {
     frame::<u8>(alloc, 8, [&[64, 255, 0, 0, 0, 0, 0, 0], &[0, 0], &[0, 0]])
 }
 
-/// Shows bytes in a chroma plane, where it is there.
+/// Copies bytes into a chroma plane, if it is present.
 fn show<T: Pixel>(plane: &mut Option<Plane<T>>, bytes: &[u8]) -> Option<()> {
     match plane {
         Some(plane) => plane.copy_from_u8_slice(bytes).ok(),
@@ -38,7 +38,7 @@ fn show<T: Pixel>(plane: &mut Option<Plane<T>>, bytes: &[u8]) -> Option<()> {
     }
 }
 
-/// Appends how many bytes a frame has as NV12 or P010.
+/// Appends the number of bytes of a frame in NV12 or P010.
 pub fn push_length<T: Pixel>(text: &mut String, frame: &Frame<T>) -> Option<()> {
     let format = match T::BYTES {
         1 => SemiPlanarFormat::Nv12,
@@ -48,7 +48,7 @@ pub fn push_length<T: Pixel>(text: &mut String, frame: &Frame<T>) -> Option<()> 
     writeln!(text, "{bytes} bytes semi-planar").ok()
 }
 
-/// Turns a frame upside down, then to its right end, then by 180 degrees, so that it shows at last what it did.
+/// Flips a frame vertically, then horizontally, and rotates it by 180 degrees, which gives the original picture again.
 pub fn push_turns<T: Pixel>(text: &mut String, frame: &mut Frame<T>) -> Option<()> {
     flip_vertical_in_place(frame);
     push_planes(text, "upside down", frame)?;
@@ -58,7 +58,7 @@ pub fn push_turns<T: Pixel>(text: &mut String, frame: &mut Frame<T>) -> Option<(
     push_planes(text, "and by 180 degrees", frame)
 }
 
-/// Mirrors a frame into another one.
+/// Flips a frame horizontally into another one.
 pub fn push_mirrored<T: Pixel>(
     text: &mut String,
     source: &Frame<T>,
@@ -68,7 +68,7 @@ pub fn push_mirrored<T: Pixel>(
     push_planes(text, "mirrored", target)
 }
 
-/// Shows a frame in another one upside down, then mirrored, then turned by 180 degrees.
+/// Writes a frame to another one: flipped vertically, flipped horizontally, and rotated by 180 degrees.
 pub fn push_flips<T: Pixel>(
     text: &mut String,
     source: &Frame<T>,
@@ -82,7 +82,7 @@ pub fn push_flips<T: Pixel>(
     push_planes(text, "by 180 degrees", target)
 }
 
-/// Shows a frame in one of 2 columns and 4 rows, transposed, then turned by 90, then by 270 degrees.
+/// Writes a frame to one of 2 columns and 4 rows: transposed, rotated by 90 degrees, and rotated by 270 degrees.
 pub fn push_quarter_turns<T: Pixel>(
     alloc: Global,
     text: &mut String,
@@ -98,7 +98,7 @@ pub fn push_quarter_turns<T: Pixel>(
     push_planes(text, "by 270 degrees", &target)
 }
 
-/// Appends a line of each plane.
+/// Appends a line for each plane.
 fn push_planes<T: Pixel>(text: &mut String, name: &str, frame: &Frame<T>) -> Option<()> {
     push_plane(text, name, &frame.y_plane.as_plane_ref())?;
     if let Some(plane) = &frame.u_plane {

@@ -1,4 +1,4 @@
-//! Calls that no other program of the gate makes, those over pixels with both types. Each prints what it gives.
+//! Calls on pixels of both types that no other program of CI makes. The program prints the result of each call.
 #![tactic(auto)]
 
 mod frames;
@@ -21,7 +21,7 @@ fn main(rt: HostRuntime) -> io::Result<()> {
     print!(rt; "{text}")
 }
 
-/// Appends what all calls give. `None` where there is no memory.
+/// Appends the results of all calls. Returns `None` if a memory allocation fails.
 fn push_all(alloc: Global, text: &mut String) -> Option<()> {
     text.push_str("u8\n").ok()?;
     push_calls::<u8>(
@@ -43,7 +43,7 @@ fn push_all(alloc: Global, text: &mut String) -> Option<()> {
     push_numbers(text)
 }
 
-/// Appends what the calls over pixels of a type give, of planes with these bytes.
+/// Appends the results of the calls on pixels of a type. `planes` are the bytes of the planes.
 fn push_calls<T: Pixel>(alloc: Global, text: &mut String, planes: [&[u8]; 3]) -> Option<()> {
     let bit_depth = if T::BYTES == 1 { 8 } else { 10 };
     let mut first = frames::frame::<T>(alloc, bit_depth, planes)?;

@@ -1,4 +1,4 @@
-//! Samples of colors, means over frames, a depth, and the CRC-32 of parts.
+//! Samples of colors, means over frames, a bit depth, and the CRC-32 of data in parts.
 
 use crate::text::push_plane;
 use v_frame::plane::{Plane, RowsRef};
@@ -7,7 +7,7 @@ use v_frame_measures::StreamQuality;
 use v_frame_rgb::{ColorRange, Luma, Rgb, RgbMatrix, Standard, YuvMatrix, rgb_to_channel};
 use v_frame_y4m::Depth;
 
-/// Appends these numbers.
+/// Appends the results of calls that need no frame.
 pub fn push_numbers(text: &mut String) -> Option<()> {
     let mut quality = StreamQuality::new();
     quality.add(4.0, 8);
@@ -23,7 +23,7 @@ pub fn push_numbers(text: &mut String) -> Option<()> {
     writeln!(text, "crc {crc:08x}").ok()
 }
 
-/// Appends the luma of eight colors that fill a plane: black, red, green and blue, and then white less these.
+/// Appends the luma of eight colors that fill a plane: black, red, green and blue, followed by their complements.
 pub fn push_samples(text: &mut String, plane: &mut Plane<u8>) -> Option<()> {
     let colors = [
         0, 0, 0, 255, 0, 0, 0, 255, 0, 0, 0, 255, 255, 255, 255, 0, 255, 255, 255, 0, 255, 255,

@@ -1,4 +1,4 @@
-//! Planes.
+//! Calls on planes.
 
 use crate::text::push_plane;
 use std::alloc::Global;
@@ -7,7 +7,7 @@ use v_frame::plane::{Plane, PlaneRef};
 use v_frame_ops::{blend_region, blend_region_with_mask};
 use v_frame_statistics::{maximum, minimum, rows, sum, sum_and_count, variance_sums};
 
-/// Appends the sums of the pixels and of their squares.
+/// Appends the sum of the pixels, the sum of their squares, and the extremes.
 pub fn push_sums<T: Pixel>(text: &mut String, plane: &PlaneRef<'_, T>) -> Option<()> {
     let sum = sum(plane);
     let mean = sum_and_count(plane);
@@ -21,7 +21,7 @@ pub fn push_sums<T: Pixel>(text: &mut String, plane: &PlaneRef<'_, T>) -> Option
     writeln!(text, "from {least} to {greatest}, in the middle {part}").ok()
 }
 
-/// Appends a pixel, a rectangle that reaches into the border, and the bytes.
+/// Appends a pixel, a rectangle that extends into the padding, and the bytes of a plane.
 pub fn push_pixels<T: Pixel>(
     alloc: Global,
     text: &mut String,
@@ -43,7 +43,7 @@ pub fn push_pixels<T: Pixel>(
     text.push('\n').ok()
 }
 
-/// Blends the first two pixels of a plane over another one by a weight, and then by a mask.
+/// Blends the first two pixels of a plane over another plane, first with a weight and then with a mask.
 pub fn push_blends<T: Pixel>(
     text: &mut String,
     source: &Plane<T>,

@@ -1,4 +1,4 @@
-//! Rows that are lent for writing, pixels that are changed, and rows of pairs.
+//! Rows borrowed for writing, pixels changed by a function, and interleaved rows.
 
 ghost use Rattle.std.specs.Prelude.{◌≡◌, IfSome, vec_len};
 
@@ -9,7 +9,7 @@ use v_frame::plane::{Plane, PlaneRef, split_row_mut, visible_rows_mut};
 use v_frame_ops::map_pixels;
 use v_frame_semi_planar::rows::{deinterleave_row, interleave_row};
 
-/// Changes a plane of 2 rows by each way to lend some, and then all its pixels.
+/// Changes a plane of 2 rows with each call that borrows rows, and then all its pixels.
 pub fn push_writes<T: Pixel>(text: &mut String, plane: &mut Plane<T>) -> Option<()> {
     plane.row_mut(1)?.fill(T::from_u8(1));
     push_plane(text, "second row", &plane.as_plane_ref())?;
@@ -28,7 +28,7 @@ pub fn push_writes<T: Pixel>(text: &mut String, plane: &mut Plane<T>) -> Option<
     push_plane(text, "all pixels", &plane.as_plane_ref())
 }
 
-/// Interleaves the two rows of a plane of 4 columns, and takes them apart.
+/// Interleaves the two rows of a plane of 4 columns, and splits them again.
 pub fn push_pairs<T: Pixel>(
     alloc: Global,
     text: &mut String,
@@ -50,7 +50,7 @@ pub fn push_pairs<T: Pixel>(
     push_values(text, "and", other.as_slice())
 }
 
-/// Returns so many pixels.
+/// Returns `count` pixels.
 fn pixels<T: Pixel>(alloc: Global, count: usize) -> Option<Vec<T>>
     ensures { IfSome result (λ pixels. vec_len pixels ≡ count) }
 {
@@ -59,7 +59,7 @@ fn pixels<T: Pixel>(alloc: Global, count: usize) -> Option<Vec<T>>
     Some(pixels)
 }
 
-/// Appends a line of the values of pixels, after a name.
+/// Appends a line with a name and the values of pixels.
 fn push_values<T: Pixel>(text: &mut String, name: &str, pixels: &[T]) -> Option<()> {
     text.push_str(name).ok()?;
     for pixel in pixels {

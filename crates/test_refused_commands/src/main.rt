@@ -1,7 +1,8 @@
-//! Does one run of `yuv`, and prints what it wrote and how it ended.
+//! Runs `yuv` once, and prints its output and its exit status.
 //!
-//! The arguments are two numbers and the words of the run: so many requests for memory are made in front of the run, and so many
-//! behind it. `rt try --fail-alloc N` refuses the Nth request, and `tools/refuse-memory` so refuses each request of a run.
+//! The arguments are two numbers and the arguments of `yuv`. The program makes the first number of memory allocations before
+//! the run, and the second number after it. With `rt try --fail-alloc N` the Nth allocation fails. `tools/refuse-memory` lets
+//! each allocation of a run fail in this way.
 #![tactic(auto)]
 
 use std::env;
@@ -13,8 +14,8 @@ fn main(rt: HostRuntime) {
     }
 }
 
-/// Shows the run that the arguments spell, and whether a request was refused up to its end. `None` where one was refused in front
-/// of it. What it says on standard error stands behind what it writes.
+/// Shows the run with these arguments, and whether an allocation failed before its end. Returns `None` if an allocation before
+/// the run failed. The text on standard error follows the text on standard output.
 fn show_run(rt: &HostRuntime) -> Option<()> {
     let mut given = env::args(rt).ok()?;
     let _program = given.next();
@@ -45,12 +46,12 @@ fn show_run(rt: &HostRuntime) -> Option<()> {
     Some(())
 }
 
-/// Returns the number that an argument says.
+/// Parses a number.
 fn count_of(word: Option<String>) -> Option<u16> {
     word?.parse::<u16>().ok()
 }
 
-/// Makes requests, and gives back at once what each got. `None` where one was refused.
+/// Makes memory allocations and frees each of them at once. Returns `None` if one fails.
 fn make_requests(rt: &HostRuntime, count: u16) -> Option<()> {
     for _request in 0..count {
         let _room = Vec::<u8>::with_capacity(rt.alloc(), 1).ok()?;

@@ -1,4 +1,4 @@
-//! Buffers by their own calls, a list and a blank plane.
+//! Calls on buffers, on a list and on a blank plane.
 
 use crate::filled;
 use crate::show::{fill, show, show_made};
@@ -8,10 +8,10 @@ use v_frame::plane::{Plane, PlaneGeometry};
 use v_frame::sequence::Sequence;
 use v_frame_buffer::AlignedData;
 
-/// What eight entries hold.
+/// Eight entries.
 static EIGHT: [u16; 8] = [1, 2, 3, 4, 5, 6, 7, 8];
 
-/// Shows the case of this name, here or behind. `None` where a request of its preparation was refused.
+/// Runs the case with this name, in this module or a later one. Returns `None` if an allocation of its preparation fails.
 pub fn seen(rt: &HostRuntime, name: &str) -> Option<()> {
     let alloc = rt.alloc();
     match name {
@@ -31,7 +31,7 @@ pub fn seen(rt: &HostRuntime, name: &str) -> Option<()> {
     Some(())
 }
 
-/// Prints the entries of a buffer that was made, or why it was not.
+/// Prints the entries of a buffer, or the error.
 fn show_buffer<T: Debug + Drop>(rt: &HostRuntime, made: Result<AlignedData<T>, AllocError>) {
     match made {
         Ok(buffer) => show(rt, &buffer.as_slice()),
@@ -39,7 +39,7 @@ fn show_buffer<T: Debug + Drop>(rt: &HostRuntime, made: Result<AlignedData<T>, A
     }
 }
 
-/// Eight entries equal their clone until one is changed, which the clone keeps.
+/// Compares eight entries with their clone, before and after one of them is changed. The clone does not change.
 fn clone_of_a_buffer(rt: &HostRuntime) -> Option<()> {
     let mut entries = AlignedData::new(rt.alloc(), 0_u16, 8).ok()?;
     fill(entries.as_mut_slice(), &EIGHT);
@@ -57,7 +57,7 @@ fn clone_of_a_buffer(rt: &HostRuntime) -> Option<()> {
     Some(())
 }
 
-/// The values of two places. Where memory is refused, the places are given back with them.
+/// Takes the values out of a buffer of two options. If the allocation fails, the buffer is returned unchanged.
 fn values_of_a_buffer(rt: &HostRuntime) -> Option<()> {
     let places = AlignedData::new(rt.alloc(), Some(7_u16), 2).ok()?;
     match places.into_values(rt.alloc()) {

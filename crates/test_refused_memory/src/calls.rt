@@ -1,11 +1,11 @@
-//! A list of six calls of a replay, three of which write.
+//! A replay list of six calls. Three of them write.
 
 use std::alloc::Global;
 use v_frame::replay::Side::{Back, Front};
 use v_frame::replay::{PixelDraw, RowDraw, Side, VisibleCall};
 use v_frame::sequence::Sequence;
 
-/// Returns the calls. `None` where a request for their memory was refused.
+/// Returns the calls, or `None` if a memory allocation fails.
 pub fn calls(alloc: Global) -> Option<[VisibleCall<u16>; 6]> {
     Some([
         VisibleCall::RowsMut {
@@ -38,7 +38,7 @@ pub fn calls(alloc: Global) -> Option<[VisibleCall<u16>; 6]> {
     ])
 }
 
-/// The last row gets a pixel, the first one none, and the third call is past the end.
+/// Changes one pixel of the last row and none of the first. The third call finds no row left.
 fn row_draws(alloc: Global) -> Option<Sequence<RowDraw<u16>>> {
     let draws = [
         row_draw(alloc, Back, &[None, Some(50)])?,
@@ -48,13 +48,13 @@ fn row_draws(alloc: Global) -> Option<Sequence<RowDraw<u16>>> {
     Some(Vec::from_array(alloc, draws).ok()?.into())
 }
 
-/// Returns a row and what is written into it.
+/// Returns a row draw that writes these pixels.
 fn row_draw(alloc: Global, side: Side, writes: &[Option<u16>]) -> Option<RowDraw<u16>> {
     let writes = Sequence::from_slice(alloc, writes).ok()?;
     Some(RowDraw { side, writes })
 }
 
-/// The first and the last pixel are replaced, the second is left.
+/// Replaces the first and the last pixel, and leaves the second one unchanged.
 fn pixel_draws(alloc: Global) -> Option<Sequence<PixelDraw<u16>>> {
     let draws = [
         pixel_draw(Front, Some(7)),
@@ -64,7 +64,7 @@ fn pixel_draws(alloc: Global) -> Option<Sequence<PixelDraw<u16>>> {
     Some(Vec::from_array(alloc, draws).ok()?.into())
 }
 
-/// Returns a pixel and what is written over it.
+/// Returns a pixel draw that writes this value.
 fn pixel_draw(side: Side, value: Option<u16>) -> PixelDraw<u16> {
     PixelDraw { side, value }
 }

@@ -1,4 +1,4 @@
-//! How often each value of 16 bits occurs.
+//! Histograms of 16-bit values.
 
 use crate::replays;
 use crate::show::show;
@@ -6,10 +6,10 @@ use std::alloc::AllocError;
 use v_frame::plane::{PlaneGeometry, PlaneRef};
 use v_frame_statistics::{histogram_of_depth, rows};
 
-/// Three pixels by two, one of them there twice, in a border of 9.
+/// A plane of three by two pixels, with one value twice, and border entries of 9.
 static ENTRIES: [u16; 8] = [9, 0, 65535, 7, 9, 258, 7, 1];
 
-/// Shows the case of this name, here or behind. `None` where a request of its preparation was refused.
+/// Runs the case with this name, in this module or a later one. Returns `None` if an allocation of its preparation fails.
 pub fn seen(rt: &HostRuntime, name: &str) -> Option<()> {
     let geometry = PlaneGeometry::new(3, 2, 1, 0, 0, 0, 1, 1)?;
     let plane = PlaneRef::new(geometry, &ENTRIES)?;
@@ -24,7 +24,7 @@ pub fn seen(rt: &HostRuntime, name: &str) -> Option<()> {
     Some(())
 }
 
-/// Prints how many counts there are, and those of the values that occur.
+/// Prints the length of a histogram, and the counts of the values that occur.
 fn show_counts(rt: &HostRuntime, counts: Result<Vec<u64>, AllocError>) {
     match counts {
         Ok(counts) => {

@@ -1,4 +1,4 @@
-//! Elements whose drops are counted.
+//! Elements that count how often they are dropped.
 
 use crate::filled::assumed;
 use crate::show::show;
@@ -18,8 +18,8 @@ impl Drop for Counted {
     }
 }
 
-/// The values of a plane that is filled with three elements. Each is dropped once, with the plane that the call gave
-/// or gave back, and none before.
+/// Takes the values out of a plane that is filled with three elements. Each element is dropped exactly once, together with the
+/// plane that the call returns.
 pub fn assume_init_of_counted_drops(rt: &HostRuntime) -> Option<()> {
     let drops = Rc::new(rt.alloc(), Cell::new(0)).ok()?;
     let mut elements = [element(&drops), element(&drops), element(&drops)];
@@ -32,7 +32,7 @@ pub fn assume_init_of_counted_drops(rt: &HostRuntime) -> Option<()> {
     Some(())
 }
 
-/// Returns an element that counts its drop here.
+/// Returns an element that counts its drop in `drops`.
 fn element(drops: &Rc<Cell<u32>>) -> Option<Counted> {
     match drops.clone() {
         Ok(drops) => Some(Counted { drops }),
@@ -40,7 +40,8 @@ fn element(drops: &Rc<Cell<u32>>) -> Option<Counted> {
     }
 }
 
-/// Shows how many elements were dropped before the plane is, how many it has, and how many are dropped with it.
+/// Prints the number of elements dropped so far, the number of elements in the plane, and the number dropped after the plane is
+/// dropped.
 fn show_drops<T: Drop>(rt: &HostRuntime, what: &str, drops: &Cell<u32>, plane: Plane<T>) {
     let (before, count) = (drops.get(), plane.data().len());
     drop(plane);

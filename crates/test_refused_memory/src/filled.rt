@@ -4,7 +4,7 @@ use crate::show::{show_made, show_plane};
 use crate::{drops, frames, no_memory};
 use v_frame::plane::{Plane, PlaneGeometry};
 
-/// Shows the case of this name, here or behind. `None` where a request of its preparation was refused.
+/// Runs the case with this name, in this module or a later one. Returns `None` if an allocation of its preparation fails.
 pub fn seen(rt: &HostRuntime, name: &str) -> Option<()> {
     match name {
         "new_uninit" => {
@@ -24,11 +24,11 @@ pub fn seen(rt: &HostRuntime, name: &str) -> Option<()> {
     Some(())
 }
 
-/// What the call gives: the plane of values, or the plane of places back.
+/// The result of the call: the plane of values, or the unchanged plane of options.
 type Given<T> = Result<Plane<T>, Plane<Option<T>>>;
 
-/// Returns what the call gives of a plane of one row that is filled with these values. `None` where one of them is not there,
-/// since the request for it was refused.
+/// Returns the result of the call for a plane of one row that is filled with these values. Returns `None` if a value is missing
+/// because its allocation failed.
 pub fn assumed<T: Drop>(rt: &HostRuntime, values: &mut [Option<T>]) -> Option<Given<T>> {
     let geometry = PlaneGeometry::unpadded(values.len(), 1, 1, 1)?;
     geometry.checked_alloc_size()?;
@@ -44,7 +44,7 @@ pub fn assumed<T: Drop>(rt: &HostRuntime, values: &mut [Option<T>]) -> Option<Gi
     }
 }
 
-/// Three texts, which own memory where they are not empty.
+/// Fills a plane with three texts. Those that are not empty own memory.
 fn assume_init_of_texts(rt: &HostRuntime) -> Option<()> {
     let mut texts = [
         String::from_str(rt.alloc(), "Hello World").ok(),

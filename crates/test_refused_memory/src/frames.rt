@@ -1,5 +1,5 @@
-//! Frames that are made, and small ones that are read from their bytes. Where memory is refused, nothing was read, and the frame
-//! is as it was.
+//! Frames that are built, and small frames that are read from bytes. If an allocation fails, nothing is read, and the frame is
+//! unchanged.
 
 use crate::lines;
 use crate::show::{fill, show, show_built, show_frame};
@@ -9,7 +9,7 @@ use v_frame::laws;
 use v_frame_planar::{Counted, read_frame, video_frame};
 use v_frame_semi_planar::SemiPlanarFormat::Nv12;
 
-/// Shows the case of this name, here or behind. `None` where a request of its preparation was refused.
+/// Runs the case with this name, in this module or a later one. Returns `None` if an allocation of its preparation fails.
 pub fn seen(rt: &HostRuntime, name: &str) -> Option<()> {
     let alloc = rt.alloc();
     match name {
@@ -26,12 +26,12 @@ pub fn seen(rt: &HostRuntime, name: &str) -> Option<()> {
     Some(())
 }
 
-/// Returns a frame in 4:2:0 with a border to its left.
+/// Returns the builder of a 4:2:0 frame with padding on its left.
 fn small() -> FrameBuilder {
     FrameBuilder::new(4, 2, Yuv420, 8).luma_padding_left(2)
 }
 
-/// A frame of bytes in a border of 200.
+/// Reads a frame of 8-bit pixels whose border entries are 200.
 fn read_frame_of_bytes(rt: &HostRuntime) -> Option<()> {
     let builder = FrameBuilder::new(3, 2, Monochrome, 8)
         .luma_padding_left(1)
@@ -51,10 +51,10 @@ fn read_frame_of_bytes(rt: &HostRuntime) -> Option<()> {
     Some(())
 }
 
-/// Four pixels by two, then U and V by turns, and one byte after them.
+/// Four by two luma pixels, the interleaved pixels of U and V, and one more byte.
 static NV12: [u8; 13] = [1, 2, 3, 4, 5, 6, 7, 8, 10, 20, 11, 21, 99];
 
-/// A frame whose chroma samples lie by turns.
+/// Reads a frame with interleaved chroma samples.
 fn read_semi_planar_frame(rt: &HostRuntime) -> Option<()> {
     let builder = FrameBuilder::new(4, 2, Yuv420, 8);
     let mut frame = builder.build::<u8>(rt.alloc()).ok()?;

@@ -1,4 +1,4 @@
-//! Header lines of streams, their pieces, and a frame of the size that a header says.
+//! Header lines of streams, their pieces, and a frame of the size in a header.
 
 use crate::show::{show, show_built};
 use crate::streams;
@@ -10,16 +10,16 @@ use v_frame_y4m::{
     parse_header, parse_lax_header, read_header, read_lax_header, strict_line, write_header,
 };
 
-/// A header line with all its parameters, in front of a frame's line.
+/// A header line with all parameters, followed by the line of a frame.
 static STREAM: [u8; 54] = *b"YUV4MPEG2 W30 H2 F25:1 Ip A4:3 C444p16 XAB XC=D\nFRAME\n";
 
-/// The same line as a lax producer writes it.
+/// The same header line in a lax form.
 static LAX: [u8; 57] = *b"YUV4MPEG2 W30  H2 F25 Ip A4:3   C444p16 XAB XC=D \r\nFRAME\n";
 
-/// Shows the case of this name, here or behind. `None` where a request of its preparation was refused.
+/// Runs the case with this name, in this module or a later one. Returns `None` if an allocation of its preparation fails.
 pub fn seen(rt: &HostRuntime, name: &str) -> Option<()> {
     let alloc = rt.alloc();
-    // A header without extensions takes no memory.
+    // A header without extensions needs no memory.
     let header = header_with(Vec::new(alloc).into());
     match name {
         "header_line" => show_line(rt, header_line(alloc, &header)),
@@ -35,11 +35,12 @@ pub fn seen(rt: &HostRuntime, name: &str) -> Option<()> {
     Some(())
 }
 
-/// Shows a header that is read or written. Where memory is refused, its line is read and no more, and nothing is written.
+/// Runs the cases that read or write a header. If an allocation fails, only the header line has been read, and nothing has been
+/// written.
 fn seen_of_streams(rt: &HostRuntime, name: &str) -> Option<()> {
     match name {
         "read_header" => show_read(rt, &STREAM),
-        // One whose color is unknown: where there is no memory to name it, that is told.
+        // The color of this header is unknown. If the color cannot be copied into the error, the error is `OutOfMemory`.
         "read_header_that_is_refused" => show_read(rt, b"YUV4MPEG2 W30 H2 C5\nFRAME\n"),
         "read_lax_header" => {
             let mut reader = Counted::new(LAX.as_slice());
@@ -52,14 +53,14 @@ fn seen_of_streams(rt: &HostRuntime, name: &str) -> Option<()> {
     Some(())
 }
 
-/// Shows what is read of a header, and what is left.
+/// Prints the header that is read, and the bytes that are left.
 fn show_read(rt: &HostRuntime, stream: &[u8]) {
     let mut reader = Counted::new(stream);
     let read = read_header(rt.alloc(), &mut reader);
     show(rt, &(read, str::from_utf8(reader.get_ref())));
 }
 
-/// Shows a header that is written into room of a fixed length.
+/// Prints a header that is written to a buffer of fixed length.
 fn write_into_room(rt: &HostRuntime) -> Option<()> {
     let first = Sequence::from_slice(rt.alloc(), b"AB").ok()?;
     let second = Sequence::from_slice(rt.alloc(), b"C=D").ok()?;
@@ -76,7 +77,7 @@ fn write_into_room(rt: &HostRuntime) -> Option<()> {
     Some(())
 }
 
-/// Prints a line, or why there is none.
+/// Prints a line, or the error.
 fn show_line(rt: &HostRuntime, line: Result<Vec<u8>, AllocError>) {
     match line {
         Ok(line) => show(rt, &str::from_utf8(line.as_slice())),
@@ -84,7 +85,7 @@ fn show_line(rt: &HostRuntime, line: Result<Vec<u8>, AllocError>) {
     }
 }
 
-/// Returns the header of the line, with these extensions.
+/// Returns the header of the line above, with these extensions.
 fn header_with(extensions: Sequence<Sequence<u8>>) -> StreamHeader {
     StreamHeader {
         width: 30,

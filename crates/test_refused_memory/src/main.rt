@@ -1,7 +1,8 @@
-//! Makes calls over prepared frames and planes, and prints what each gave and left.
+//! Makes calls on prepared frames and planes, and prints the result and the effect of each.
 //!
-//! The arguments are two numbers and the names of cases: so many requests for memory are made in front of the cases, and so many
-//! behind them. `rt try --fail-alloc N` refuses the Nth request, and `tools/refuse-memory` so refuses each request of each call.
+//! The arguments are two numbers and the names of cases. The program makes the first number of memory allocations before the
+//! cases, and the second number after them. With `rt try --fail-alloc N` the Nth allocation fails. `tools/refuse-memory` lets
+//! each allocation of each call fail in this way.
 #![tactic(auto)]
 
 mod buffers;
@@ -27,8 +28,8 @@ fn main(rt: HostRuntime) {
     }
 }
 
-/// Shows the cases that the arguments name, and whether a request was refused up to their end. `None` where one was refused in
-/// front of them.
+/// Runs the cases that the arguments name, and prints whether an allocation failed before their end. Returns `None` if an
+/// allocation before the cases failed.
 fn show_cases(rt: &HostRuntime) -> Option<()> {
     let mut words = env::args(rt).ok()?;
     let _program = words.next();
@@ -49,12 +50,12 @@ fn show_cases(rt: &HostRuntime) -> Option<()> {
     Some(())
 }
 
-/// Returns the number that an argument says.
+/// Parses a number.
 fn count_of(word: Option<String>) -> Option<u16> {
     word?.parse::<u16>().ok()
 }
 
-/// Makes requests, and gives back at once what each got. `None` where one was refused.
+/// Makes memory allocations and frees each of them at once. Returns `None` if one fails.
 fn make_requests(rt: &HostRuntime, count: u16) -> Option<()> {
     for _request in 0..count {
         let _room = Vec::<u8>::with_capacity(rt.alloc(), 1).ok()?;

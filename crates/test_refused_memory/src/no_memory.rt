@@ -1,4 +1,4 @@
-//! Calls that take no memory, and so answer as ever whichever request is refused.
+//! Calls that allocate no memory, so their results are the same whichever allocation fails.
 
 use crate::replays::show_replay;
 use crate::show::show;
@@ -11,8 +11,8 @@ use v_frame::plane::{PlaneGeometry, PlaneRef};
 use v_frame_buffer::AlignedData;
 use v_frame_planar::{Counted, write_frame};
 
-/// A blank frame that is replayed nothing and written; buffers of no entries, builds that are refused before they ask for memory,
-/// and reading over an array.
+/// Replays nothing on a blank frame and writes it, makes buffers without entries, makes builds that are rejected before they
+/// allocate, and reads an array.
 pub fn calls_that_take_no_memory(rt: &HostRuntime) -> Option<()> {
     let builder = FrameBuilder::new(3, 2, Monochrome, 8);
     let mut frame = builder.build::<u8>(rt.alloc()).ok()?;
@@ -33,7 +33,7 @@ pub fn calls_that_take_no_memory(rt: &HostRuntime) -> Option<()> {
     show_array(rt)
 }
 
-/// Returns the lengths of buffers of no entries: zeros, their clone, and the values of options.
+/// Returns the lengths of buffers without entries: zeros, their clone, and the values of options.
 fn lengths_of_empty_buffers(alloc: Global) -> Result<[usize; 3], AllocError> {
     let zeros = AlignedData::new(alloc, 0_u16, 0)?;
     let copy = zeros.clone(alloc)?;
@@ -48,7 +48,7 @@ fn lengths_of_empty_buffers(alloc: Global) -> Result<[usize; 3], AllocError> {
     }
 }
 
-/// Returns a frame of this width and depth.
+/// Returns the builder of a frame with this width and this bit depth.
 fn sized(width: usize, depth: u8) -> FrameBuilder {
     FrameBuilder::new(width, 1080, Yuv420, depth)
 }
@@ -58,10 +58,10 @@ fn show_refused<T: Pixel>(rt: &HostRuntime, builder: FrameBuilder) {
     show(rt, &builder.build::<T>(rt.alloc()).err());
 }
 
-/// Two pixels by two in a border of one column to the left.
+/// Two by two pixels with one border column on the left.
 static ENTRIES: [u16; 6] = [900, 0x0102, 0x0304, 901, 0x0506, 0x0708];
 
-/// Prints what a plane over an array shows.
+/// Prints the pixels of a plane over an array.
 fn show_array(rt: &HostRuntime) -> Option<()> {
     let geometry = PlaneGeometry::new(2, 2, 1, 0, 0, 0, 1, 1)?;
     let plane = PlaneRef::new(geometry, &ENTRIES)?;

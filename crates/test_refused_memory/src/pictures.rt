@@ -1,4 +1,4 @@
-//! Pictures, a chart and a frame's text that are written into room of a fixed length. Where memory is refused, nothing is.
+//! Pictures, a chart and the text of a frame, written to a buffer of fixed length. If an allocation fails, nothing is written.
 
 use crate::counts;
 use crate::show::show;
@@ -8,7 +8,7 @@ use v_frame_planar::Counted;
 use v_frame_png::{ColorSpace, Compression, Header, PngWriter, Samples, write_png, write_png_with};
 use v_frame_tool_run::run::run;
 
-/// Shows the case of this name, here or behind. `None` where a request of its preparation was refused.
+/// Runs the case with this name, in this module or a later one. Returns `None` if an allocation of its preparation fails.
 pub fn seen(rt: &HostRuntime, name: &str) -> Option<()> {
     match name {
         "png_of_rows" => png_of_rows(rt, Compression::Stored)?,
@@ -26,7 +26,7 @@ pub fn seen(rt: &HostRuntime, name: &str) -> Option<()> {
     Some(())
 }
 
-/// Returns the header of two pixels by two.
+/// Returns the header of a picture of two by two pixels.
 fn header(samples: Samples) -> Header {
     Header {
         width: 2,
@@ -41,7 +41,7 @@ fn is_blank(room: &[u8]) -> bool {
     room.iter().all(|byte| *byte == 0)
 }
 
-/// A file of two rows of bytes.
+/// Writes a file of two rows of bytes.
 fn png_of_rows(rt: &HostRuntime, compression: Compression) -> Option<()> {
     let rows = RowsRef::new(&[1, 2, 3, 4], 2, 2, 2)?;
     let mut room = [0; 120];
@@ -62,7 +62,7 @@ fn png_of_rows(rt: &HostRuntime, compression: Compression) -> Option<()> {
     Some(())
 }
 
-/// A picture that is begun.
+/// Begins a picture.
 fn png_writer(rt: &HostRuntime, compression: Compression) {
     let mut room = [0; 120];
     let (alloc, out, gray) = (rt.alloc(), room.as_mut_slice(), header(Samples::Gray8));
@@ -79,7 +79,7 @@ fn png_writer(rt: &HostRuntime, compression: Compression) {
     }
 }
 
-/// Two rows of words, or a plane of them. Where memory is refused, both rows are still to be written.
+/// Writes two rows of 16-bit samples, or a plane of them. If an allocation fails, both rows are still to be written.
 fn png_of_words(rt: &HostRuntime, is_plane: bool) -> Option<()> {
     let plane = PlaneRef::new(
         PlaneGeometry::unpadded(2, 2, 1, 1)?,
@@ -97,10 +97,10 @@ fn png_of_words(rt: &HostRuntime, is_plane: bool) -> Option<()> {
     Some(())
 }
 
-/// The numbers of a chart.
+/// The values of a chart.
 static VALUES: [f64; 3] = [30.0, 29.0, 32.0];
 
-/// Two columns, of which the second has two of the numbers.
+/// Prints two columns of a chart. The second one has two of the values.
 fn columns_of_a_chart(rt: &HostRuntime) {
     match summaries(rt.alloc(), &VALUES, 2) {
         Ok(columns) => {
@@ -114,7 +114,7 @@ fn columns_of_a_chart(rt: &HostRuntime) {
     }
 }
 
-/// A chart as text, or in a room. What is shown of it is its head, its end and its length: a clause says which bytes it has.
+/// Prints a chart, made as a text or in a buffer: its beginning, its end and its length. A contract states all its bytes.
 fn chart_into(rt: &HostRuntime, is_written: bool) {
     let series = [Series {
         name: "Y",
@@ -136,7 +136,7 @@ fn chart_into(rt: &HostRuntime, is_written: bool) {
     }
 }
 
-/// A chart that is written.
+/// Writes a chart.
 fn write_chart(rt: &HostRuntime, chart: &Chart<'_>) {
     let mut room = [0; 9000];
     let mut out = room.as_mut_slice();
@@ -150,13 +150,13 @@ fn write_chart(rt: &HostRuntime, chart: &Chart<'_>) {
     show(rt, &is_blank(rest));
 }
 
-/// Prints how a chart begins and ends, and its length.
+/// Prints the beginning and the end of a chart, and its length.
 fn show_chart(rt: &HostRuntime, chart: &[u8]) {
     let ends = (chart.starts_with(b"<svg "), chart.ends_with(b"</svg>\n"));
     show(rt, &(ends, chart.len()));
 }
 
-/// The first program's text of eight pixels. No write fails.
+/// Runs the program `v_frame_tool` on eight pixels, with its output in a buffer of fixed length. No write fails.
 fn run_into_a_fixed_slice(rt: &HostRuntime) {
     let mut room = [0; 40];
     let mut out = Counted::new(room.as_mut_slice());

@@ -1,4 +1,4 @@
-//! Cases of a frame of three planes, each with a picture in a border whose entries are numbered.
+//! Cases on a frame of three planes. Each plane has a border of numbered entries.
 
 use crate::calls::calls;
 use crate::replays::show_replay;
@@ -11,11 +11,11 @@ use v_frame::replay::Side;
 use v_frame::replay::Side::{Back, Front};
 use v_frame_planar::{Counted, read_frame};
 
-/// The entries of a plane of 3 pixels by 2, with one border column to the left, two to the right, and a border row above. Each
-/// border entry holds a number of its own.
+/// The entries of a plane of 3 by 2 pixels, with one border column on the left, two on the right, and one border row above.
+/// Each border entry has a different number.
 type Buffer = [u16; 18];
 
-/// What the planes of the frame have.
+/// The entries of the planes of the frame.
 static PREPARED: [Buffer; 3] = [
     [
         100, 101, 102, 103, 104, 105, 106, 1, 2, 3, 110, 111, 112, 4, 5, 6, 116, 117,
@@ -28,16 +28,16 @@ static PREPARED: [Buffer; 3] = [
     ],
 ];
 
-/// The line of a frame, the bytes 1 to 36, and one after them.
+/// The line of a frame, the bytes 1 to 36, and one byte after them.
 static FRAME: [u8; 43] = [
     70, 82, 65, 77, 69, 10, 1, 2, 3, 4, 5, 6, 7, 8, 9, 10, 11, 12, 13, 14, 15, 16, 17, 18, 19, 20,
     21, 22, 23, 24, 25, 26, 27, 28, 29, 30, 31, 32, 33, 34, 35, 36, 37,
 ];
 
-/// The calls of an iterator: the last item, the first one, and then those after it.
+/// The calls of an iterator: the last item, the first item, and the items after it.
 static SIDES: [Side; 3] = [Back, Front, Front];
 
-/// Shows the case of this name. `None` where a request of its preparation was refused.
+/// Runs the case with this name, in this module or a later one. Returns `None` if an allocation of its preparation fails.
 pub fn seen(rt: &HostRuntime, name: &str) -> Option<()> {
     let builder = FrameBuilder::new(3, 2, Yuv444, 16)
         .luma_padding_left(1)
@@ -54,7 +54,7 @@ pub fn seen(rt: &HostRuntime, name: &str) -> Option<()> {
     Some(())
 }
 
-/// Shows a case on this frame.
+/// Runs a case on this frame.
 fn seen_of(rt: &HostRuntime, name: &str, frame: &mut Frame<u16>) -> Option<()> {
     let alloc = rt.alloc();
     match name {
@@ -80,7 +80,7 @@ fn seen_of(rt: &HostRuntime, name: &str, frame: &mut Frame<u16>) -> Option<()> {
     Some(())
 }
 
-/// Shows a law on the luma plane of this frame.
+/// Runs a law on the luma plane of this frame.
 fn seen_of_laws(rt: &HostRuntime, name: &str, frame: &mut Frame<u16>) {
     let alloc = rt.alloc();
     let plane = &mut frame.y_plane;
@@ -98,8 +98,8 @@ fn seen_of_laws(rt: &HostRuntime, name: &str, frame: &mut Frame<u16>) {
     }
 }
 
-/// Two frames that show the same answer a list of calls. Where that is refused, each shows what its first calls wrote, and the
-/// second one what it showed before where the first one is not done.
+/// Runs a list of calls on two frames that show the same picture. If it is interrupted, each frame has the changes of the calls
+/// that were made, and the second frame is unchanged if the first one did not finish.
 fn same_tables_same_answers(rt: &HostRuntime, frame: &mut Frame<u16>) -> Option<()> {
     let calls = calls(rt.alloc())?;
     match frame.clone(rt.alloc()) {

@@ -1,4 +1,4 @@
-//! Replays of small frames of bytes. Where one is stopped, the calls that were answered are done, and no other.
+//! Replays on small 8-bit frames. If a replay is interrupted, the calls with an answer have been made, and no others.
 
 use crate::prepared;
 use crate::show::show;
@@ -10,7 +10,7 @@ use v_frame::replay::Side::{Back, Front};
 use v_frame::replay::{VisibleCall, replay};
 use v_frame::sequence::Sequence;
 
-/// Shows the case of this name, here or behind. `None` where a request of its preparation was refused.
+/// Runs the case with this name, in this module or a later one. Returns `None` if an allocation of its preparation fails.
 pub fn seen(rt: &HostRuntime, name: &str) -> Option<()> {
     match name {
         "bytes_go_through_a_frame" => bytes_with_a_stride(rt)?,
@@ -21,7 +21,7 @@ pub fn seen(rt: &HostRuntime, name: &str) -> Option<()> {
     Some(())
 }
 
-/// Shows what calls answer, and whether all did.
+/// Prints the answers of calls, and whether all were made.
 pub fn show_replay<T: Pixel>(rt: &HostRuntime, frame: &mut Frame<T>, calls: &[VisibleCall<T>]) {
     let (answers, is_whole) = match replay(rt.alloc(), frame, calls) {
         Ok(answers) => (answers.into(), true),
@@ -33,7 +33,7 @@ pub fn show_replay<T: Pixel>(rt: &HostRuntime, frame: &mut Frame<T>, calls: &[Vi
     show(rt, &is_whole);
 }
 
-/// Bytes with a stride, which go through a frame by a law.
+/// Runs a law on bytes with a stride.
 fn bytes_with_a_stride(rt: &HostRuntime) -> Option<()> {
     let source = Vec::from_slice(rt.alloc(), &[2, 1, 4, 3, 99, 6, 5, 8, 7, 99]).ok()?;
     let sides = Vec::from_slice(rt.alloc(), &[Back, Front, Front]).ok()?;
@@ -45,7 +45,7 @@ fn bytes_with_a_stride(rt: &HostRuntime) -> Option<()> {
     Some(())
 }
 
-/// Two rows of a blank plane are written. Where a request after the first write is refused, that write is answered.
+/// Writes two rows of a blank plane. If an allocation after the first write fails, that write has an answer.
 fn two_row_writes(rt: &HostRuntime) -> Option<()> {
     let builder = FrameBuilder::new(2, 2, Monochrome, 8);
     let mut frame = builder.build::<u8>(rt.alloc()).ok()?;
@@ -73,7 +73,7 @@ fn row_mut(y: usize, writes: Sequence<Option<u8>>) -> VisibleCall<u8> {
     }
 }
 
-/// A row, the last of the rows, a copy, the last pixel, and both rows from the back.
+/// Reads a row and the last row, copies pixels into the plane, reads the last pixel, and reads both rows from the last one on.
 fn reads_and_a_copy(rt: &HostRuntime) -> Option<()> {
     let builder = FrameBuilder::new(3, 2, Monochrome, 8);
     let mut frame = builder.build::<u8>(rt.alloc()).ok()?;

@@ -1,4 +1,4 @@
-//! What is printed. Nothing here takes memory, so a request that is refused is one of the preparation or of the call.
+//! Prints results. Nothing in this module allocates, so an allocation that fails is one of the preparation or of the call.
 
 use std::alloc::AllocError;
 use std::fmt::Debug;
@@ -16,13 +16,13 @@ pub fn show_text(rt: &HostRuntime, text: &str) {
     let _ = println!(rt; "{text}");
 }
 
-/// Prints a plane, of which that has the geometry and the first entries, and all its entries.
+/// Prints a plane, whose debug text has the geometry and the first entries, and all its entries.
 pub fn show_plane<T: Debug>(rt: &HostRuntime, plane: &Plane<T>) {
     show(rt, plane);
     show(rt, &plane.data());
 }
 
-/// Prints a plane that was made, or why it was not.
+/// Prints a plane, or the error.
 pub fn show_made<T: Debug + Drop>(rt: &HostRuntime, made: Result<Plane<T>, AllocError>) {
     match made {
         Ok(plane) => show_plane(rt, &plane),
@@ -30,7 +30,7 @@ pub fn show_made<T: Debug + Drop>(rt: &HostRuntime, made: Result<Plane<T>, Alloc
     }
 }
 
-/// Prints a frame with the entries of its planes.
+/// Prints a frame and the entries of its planes.
 pub fn show_frame<T: Pixel>(rt: &HostRuntime, frame: &Frame<T>) {
     show(rt, &(frame.subsampling, frame.bit_depth.get()));
     for index in 0..3 {
@@ -40,7 +40,7 @@ pub fn show_frame<T: Pixel>(rt: &HostRuntime, frame: &Frame<T>) {
     }
 }
 
-/// Prints a frame that was built, or why it was not.
+/// Prints a frame, or the error.
 pub fn show_built<T: Pixel>(rt: &HostRuntime, built: Result<Frame<T>, FrameError>) {
     match built {
         Ok(frame) => show_frame(rt, &frame),
@@ -48,7 +48,7 @@ pub fn show_built<T: Pixel>(rt: &HostRuntime, built: Result<Frame<T>, FrameError
     }
 }
 
-/// Writes these values over as many.
+/// Copies `values` to `target`, which has the same length.
 pub fn fill<T: Copy>(target: &mut [T], values: &[T]) {
     if target.len() == values.len() {
         target.copy_from_slice(values);

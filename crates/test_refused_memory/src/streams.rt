@@ -1,4 +1,4 @@
-//! Streams of frames: opened, shown in a picture, written, copied and compared.
+//! Streams: opened, read into a picture, written, copied and compared.
 
 use crate::pictures;
 use crate::show::show;
@@ -11,7 +11,7 @@ use v_frame_y4m::{Color, StreamHeader};
 /// The header line of a stream.
 static STREAM: [u8; 23] = *b"YUV4MPEG2 W30 H2 Cmono\n";
 
-/// The pixels of two frames of two by two.
+/// The pixels of two frames of two by two pixels.
 static PIXELS: [u8; 8] = *b"abcdefgh";
 
 /// The right column of such a frame.
@@ -22,7 +22,7 @@ const PART: Rectangle = Rectangle {
     height: 2,
 };
 
-/// Shows the case of this name, here or behind. `None` where a request of its preparation was refused.
+/// Runs the case with this name, in this module or a later one. Returns `None` if an allocation of its preparation fails.
 pub fn seen(rt: &HostRuntime, name: &str) -> Option<()> {
     match name {
         "stream_with_a_header" => {
@@ -39,7 +39,7 @@ pub fn seen(rt: &HostRuntime, name: &str) -> Option<()> {
     Some(())
 }
 
-/// Prints what is known of a stream that was opened, or why it was not.
+/// Prints the properties of a stream, or the error of opening it.
 fn show_opened(rt: &HostRuntime, opened: Result<Source<&[u8]>, StreamError>) {
     match opened {
         Ok(source) => show(rt, &(source.header(), source.frame_len(), source.is_lax())),
@@ -47,7 +47,7 @@ fn show_opened(rt: &HostRuntime, opened: Result<Source<&[u8]>, StreamError>) {
     }
 }
 
-/// Prints a frame that is read into a picture, or why there is no picture.
+/// Prints a frame that is read into a picture, or the error.
 fn show_picture(rt: &HostRuntime) -> Option<()> {
     let mut source = raw_source(rt, Place::First).ok()?;
     match Picture::<u8>::new(rt.alloc(), &source, MAX_PIXELS) {
@@ -60,7 +60,7 @@ fn show_picture(rt: &HostRuntime) -> Option<()> {
     Some(())
 }
 
-/// Prints the bytes of a part of a frame, or why there is none.
+/// Prints the bytes of a cropped frame, or the error.
 fn show_crop(rt: &HostRuntime) -> Option<()> {
     let mut source = raw_source(rt, Place::First).ok()?;
     let mut picture = Picture::<u8>::new(rt.alloc(), &source, MAX_PIXELS).ok()?;
@@ -72,7 +72,7 @@ fn show_crop(rt: &HostRuntime) -> Option<()> {
     Some(())
 }
 
-/// Prints what is written of a header into room of a fixed length. Where memory is refused, that is nothing.
+/// Prints the bytes of a header that is written to a buffer of fixed length. If an allocation fails, nothing is written.
 fn show_header_written(rt: &HostRuntime) -> Option<()> {
     let header = header(rt);
     let mut room = [0; 24];
@@ -86,8 +86,8 @@ fn show_header_written(rt: &HostRuntime) -> Option<()> {
     Some(())
 }
 
-/// Prints how many frames are cut out of others and written into room of a fixed length, and what is there then. Where memory
-/// is refused, that is nothing.
+/// Prints how many frames are cropped and written to a buffer of fixed length, and its contents. If an allocation fails,
+/// nothing is written.
 fn show_copy(rt: &HostRuntime) -> Option<()> {
     let mut source = raw_source(rt, Place::First).ok()?;
     let mut room = [0; 40];
@@ -100,7 +100,7 @@ fn show_copy(rt: &HostRuntime) -> Option<()> {
     Some(())
 }
 
-/// Prints how far a stream is from itself, one frame later.
+/// Prints the comparison of a stream with itself, shifted by one frame.
 fn show_comparison(rt: &HostRuntime) -> Option<()> {
     let mut first = raw_source(rt, Place::First).ok()?;
     let mut second = raw_source(rt, Place::Second).ok()?;
@@ -122,12 +122,12 @@ fn show_comparison(rt: &HostRuntime) -> Option<()> {
     Some(())
 }
 
-/// Returns a stream of pixels alone.
+/// Returns a stream of raw video.
 fn raw_source(rt: &HostRuntime, place: Place) -> Result<Source<&'static [u8]>, StreamError> {
     Source::raw(rt.alloc(), place, header(rt), None, PIXELS.as_slice())
 }
 
-/// Returns the header of the frames. It takes no memory.
+/// Returns the header of the frames. It needs no memory.
 fn header(rt: &HostRuntime) -> StreamHeader {
     StreamHeader {
         width: 2,

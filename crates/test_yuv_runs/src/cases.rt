@@ -1,4 +1,4 @@
-//! The runs, one after the other.
+//! Runs of `yuv`, one after the other.
 
 use crate::pipe::Pipe;
 use std::alloc::Global;
@@ -9,7 +9,7 @@ use std::time::Clock;
 use yuv_commands::{Streams, run};
 use yuv_files::SystemFile;
 
-/// A run: its arguments, the files that stand for the standard streams, and how many bytes standard output takes.
+/// A run: its arguments, the files that replace the standard streams, and the number of bytes that standard output accepts.
 #[derive(Drop)]
 struct Case<'a> {
     words: Vec<&'a str>,
@@ -18,7 +18,7 @@ struct Case<'a> {
     output: Option<&'a str>,
 }
 
-/// Does each run that the input says, and prints it.
+/// Makes each run in the input, and prints it.
 pub fn run_cases<H: Files + AllocGlobal + Clock, R: Read + Drop, W: Write + Drop>(
     rt: &H,
     mut input: R,
@@ -36,7 +36,7 @@ where
     out.flush()
 }
 
-/// Returns the run that a line says.
+/// Parses a line of the input.
 fn case_of(alloc: Global, line: &str) -> io::Result<Case<'_>> {
     let mut words = Vec::new(alloc);
     let (line, output) = match line.split_once(" = ") {
@@ -64,7 +64,7 @@ fn case_of(alloc: Global, line: &str) -> io::Result<Case<'_>> {
     })
 }
 
-/// Does a run, and prints it.
+/// Makes a run, and prints it.
 fn run_case<H: Files + AllocGlobal + Clock, W: Write>(
     rt: &H,
     line: &str,

@@ -1,8 +1,9 @@
-//! Runs of the program `yuv`: reads them from standard input, one a line, and prints what each wrote and how it ended.
+//! Reads runs of the program `yuv` from standard input, one on each line, and prints the output and the exit status of each.
 //!
-//! A line is the arguments, with spaces between them. After them `< FILE` gives the run standard input, `| N` a standard
-//! output that takes N bytes and is broken then, and `= FILE` says what it should write there, in place of text. The files lie where this program runs, and what a run writes
-//! to a file is there for the next.
+//! A line has the arguments, with spaces between them. They may be followed by `< FILE`, which is the standard input of the
+//! run, by `| N`, for a standard output that is a pipe and breaks after N bytes, and by `= FILE`, the file whose bytes the run
+//! should write to standard output instead of text. The files are in the directory of this program, and a file that a run
+//! writes is there for the next run.
 #![tactic(auto)]
 
 mod cases;

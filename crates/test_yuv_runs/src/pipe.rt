@@ -1,9 +1,9 @@
-//! A standard output of which the reader goes away.
+//! A standard output whose reader closes the pipe.
 
 use std::alloc::Global;
 use std::io::{self, ErrorKind, Write};
 
-/// A pipe that takes so many bytes, and is broken then.
+/// A pipe that accepts a number of bytes and then breaks.
 #[derive(Drop)]
 pub struct Pipe {
     taken: Vec<u8>,
@@ -11,7 +11,7 @@ pub struct Pipe {
 }
 
 impl Pipe {
-    /// Returns a pipe that takes this many bytes.
+    /// Returns a pipe that accepts `room` bytes.
     pub fn new(alloc: Global, room: usize) -> Self {
         Pipe {
             taken: Vec::new(alloc),
@@ -19,7 +19,7 @@ impl Pipe {
         }
     }
 
-    /// What was taken.
+    /// Returns the bytes that were accepted.
     pub fn taken(&self) -> &[u8] {
         self.taken.as_slice()
     }

@@ -1,4 +1,5 @@
--- The division is linear over `bit_xor`, so bytes can be divided apart from one another, each by a table of its place.
+-- The division is linear with respect to `bit_xor`, so bytes can be divided separately, each with
+-- the table of its position.
 use Rattle.std.proofs.Common.{ℕ, zero, suc, ◌≡◌, ◌+◌, ◌*◌, ◌/◌, ◌%◌, ◌^◌, ◌<◌, List, [], ◌∷◌, length, refl, sym, ap, ◌∙◌, arith}
 use Rattle.std.specs.Prelude.{bit_xor, fold}
 use Rattle.std.specs.Int.Bits.{xor_assoc, xor_zero_r}
@@ -71,7 +72,7 @@ shifted y =
 
 -- ---- bytes
 
--- a byte meets the lowest byte of what is left, and the others move down
+-- A byte is added to the lowest byte of the remainder, and the other bytes move down.
 pub byte_step : (rest byte : ℕ) → byte < 256
     → crc_step rest byte ≡ bit_xor (rest / 256) (divided 8 (bit_xor (rest % 256) byte))
 unfolding crc_step
@@ -104,7 +105,7 @@ fold-xor (byte ∷ bytes) a c =
     ∙ ap (λ x. bit_xor x (fold crc_step (crc_step c byte) bytes))
     (divided-add 8 (8 * length bytes) a ∙ ap (λ n. divided n a) count)
 
--- the first byte is divided apart from the others
+-- The first byte is divided separately.
 peel : (rest byte : ℕ) (bytes : List ℕ) → byte < 256 → fold crc_step rest (byte ∷ bytes)
     ≡ bit_xor (divided (8 + 8 * length bytes) (bit_xor (rest % 256) byte)) (fold crc_step (rest / 256) bytes)
 peel rest byte bytes small =
@@ -113,7 +114,7 @@ peel rest byte bytes small =
     ∙ fold-xor bytes (divided 8 low) (rest / 256)
     ∙ ap (λ x. bit_xor x (fold crc_step (rest / 256) bytes)) (divided-add 8 (8 * length bytes) low)
 
--- eight bytes, of which the first four meet what is left
+-- Eight bytes. The remainder is added to the first four.
 pub eight : (rest a b c d e f g h : ℕ) → rest < 2 ^ 32 → a < 256 → b < 256 → c < 256 → d < 256 → e < 256 → f < 256
     → g < 256 → h < 256
     → fold crc_step rest (a ∷ b ∷ c ∷ d ∷ e ∷ f ∷ g ∷ h ∷ [])
@@ -141,11 +142,11 @@ eight rest a b c d e f g h word p q r s t u v w =
     ∙ ap (bit_xor (divided 24 f)) (peel 0 g (h ∷ []) v
     ∙ ap (bit_xor (divided 16 g)) (peel 0 h [] w ∙ xor_zero_r (divided 8 h))))))))
 
--- one part more is divided by more steps
+-- One more part is divided with more steps.
 moved : (n k x y : ℕ) → divided n (bit_xor (divided k x) y) ≡ bit_xor (divided (k + n) x) (divided n y)
 moved n k x y = divided-xor n (divided k x) y ∙ ap (λ z. bit_xor z (divided n y)) (divided-add k n x)
 
--- the same with zeros after them
+-- Eight bytes, followed by zeros.
 pub eight_after : (n rest a b c d e f g h : ℕ) → rest < 2 ^ 32 → a < 256 → b < 256 → c < 256 → d < 256 → e < 256
     → f < 256 → g < 256 → h < 256
     → divided n (fold crc_step rest (a ∷ b ∷ c ∷ d ∷ e ∷ f ∷ g ∷ h ∷ []))

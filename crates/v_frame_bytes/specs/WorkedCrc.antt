@@ -1,4 +1,5 @@
--- The check of the CRC's catalogues, which zlib answers too. It computes: it is proved by `refl`.
+-- The check value in catalogues of CRCs, which zlib also returns. It is proved by computation
+-- (`refl`).
 use Rattle.std.specs.Prelude.{◌≡◌, codes, refl}
 use Rattle.v_frame_bytes.specs.Crc.{crc32, crc_step, divided}
 

@@ -1,22 +1,23 @@
-//! The CRC-32 of bytes.
+//! The CRC-32 checksum.
 ghost use Rattle.std.specs.Prelude.{◌≡◌, ◌++◌, [], List, ℕ, bit_xor, fold};
 ghost use Rattle.v_frame_bytes.specs.Crc.{crc32, crc_rest, crc_step, ones};
 
 use crate::crc_tables::CrcTables;
 use std::marker::Model;
 
-/// Returns the CRC-32 of bytes, with the polynomial 0xEDB88320, as chunks of PNG, zlib's `crc32` and gzip have it.
+/// Returns the CRC-32 of `bytes`. It is the checksum with the polynomial 0xEDB88320 (bits reversed) that PNG chunks, zlib's
+/// `crc32` and gzip use.
 ///
-/// For bytes that come in parts there is [`Crc32Digest`].
+/// For data that arrives in parts, use [`Crc32Digest`].
 pub fn crc32(bytes: &[u8]) -> u32
     ensures { result ≡ crc32 bytes.now }
 {
     CrcTables::new().of(bytes)
 }
 
-/// The CRC-32 of bytes that come one part after the other, as [`crc32`] computes it of all of them.
+/// Computes the CRC-32 of data that arrives in parts. The result is the [`crc32`] of all parts together.
 ///
-/// Contracts see what the division has left of the bytes so far, `crc_rest bytes`.
+/// In contracts, a digest is the remainder of the division of all bytes so far, `crc_rest bytes`.
 #[derive(Drop)]
 pub struct Crc32Digest {
     tables: CrcTables,
@@ -32,7 +33,7 @@ impl Model for Crc32Digest {
 }
 
 impl Crc32Digest {
-    /// Begins with no byte.
+    /// Begins a digest of no bytes.
     pub fn new() -> Self
         ensures { result ≡ crc_rest [] }
     {
@@ -42,7 +43,7 @@ impl Crc32Digest {
         }
     }
 
-    /// Adds bytes behind those before.
+    /// Appends `bytes` to the data.
     pub fn update(&mut self, bytes: &[u8])
         ensures fold { self.new ≡ fold crc_step self.old bytes.now }
         ensures bytes { (before : List ℕ) → self.old ≡ crc_rest before
@@ -51,7 +52,7 @@ impl Crc32Digest {
         self.rest = self.tables.divide(self.rest, bytes);
     }
 
-    /// Returns the CRC-32 of the bytes so far.
+    /// Returns the CRC-32 of all bytes so far.
     #[tactic(auto, unfolding(crate::specs::Crc::crc32))]
     pub fn value(&self) -> u32
         ensures turned { result ≡ bit_xor self.now ones }

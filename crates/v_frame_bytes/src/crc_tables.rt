@@ -1,26 +1,27 @@
-//! The tables of the CRC-32, by which sixteen bytes are divided at a time.
+//! The tables of the CRC-32, which allow dividing sixteen bytes at a time.
 ghost use Rattle.std.specs.Prelude.{◌≡◌, ℕ, ◌+◌, ◌*◌, ◌/◌, ◌%◌, ◌^◌, ◌<◌, ◌≤◌, length, slice_index, fold};
 ghost use Rattle.v_frame_bytes.specs.Crc.{crc32, crc_step, divided, divided_once};
 
-/// The polynomial of the CRC without its highest power, its lowest power in the highest bit.
+/// The polynomial of the CRC without its highest power. The coefficient of the lowest power is the highest bit.
 const POLYNOMIAL: u32 = 0xEDB8_8320;
 
-/// How many bytes are divided at once.
+/// The number of bytes that are divided at once.
 const PLACES: usize = 16;
 
-/// How many entries the tables have: one for each byte in each place.
+/// The number of table entries: one for each byte value at each place.
 const ENTRIES: usize = 4096;
 
-/// The tables by which the CRC-32 of bytes is computed. They take 16 KiB, and some time to make: one is for many parts.
+/// The tables for computing CRC-32 checksums. They take 16 KiB of memory, and some time to compute, so compute them once and
+/// use them for many checksums.
 #[derive(Drop)]
 pub struct CrcTables {
-    // Entry `256 * place + byte` is what is left of a byte that `8 * (place + 1)` steps have divided.
+    // Entry `256 * place + byte` is the remainder of a byte after `8 * (place + 1)` steps of the division.
     entries: [u32; ENTRIES],
     ghost divided_bytes: { (k : ℕ) → k < 4096
         → slice_index entries k ≡ divided (8 * (k / 256 + 1)) (k % 256) },
 }
 
-/// Returns what one step of the division leaves.
+/// Returns the remainder after one step of the division.
 fn step(rest: u32) -> u32
     ensures { result ≡ divided_once rest }
 {
@@ -31,7 +32,7 @@ fn step(rest: u32) -> u32
     }
 }
 
-/// Returns what eight steps leave.
+/// Returns the remainder after eight steps of the division.
 fn eight_steps(rest: u32) -> u32
     ensures { result ≡ divided 8 rest }
 {
@@ -43,7 +44,7 @@ fn eight_steps(rest: u32) -> u32
 }
 
 impl CrcTables {
-    /// Makes the tables.
+    /// Computes the tables.
     pub fn new() -> Self {
         let mut entries = [0; ENTRIES];
         for k in 0..256 {
@@ -56,7 +57,7 @@ impl CrcTables {
         CrcTables { entries }
     }
 
-    /// Returns what is left of a byte that stands so many bytes before the last one.
+    /// Returns the remainder of a byte that is followed by `place` other bytes.
     fn entry(&self, place: usize, byte: u8) -> u32
         requires { place < 16 }
         ensures { result ≡ divided (8 * (place + 1)) byte }
@@ -64,21 +65,22 @@ impl CrcTables {
         self.entries[256 * place + byte as usize]
     }
 
-    /// Divides one byte.
+    /// Divides one byte. `rest` is the remainder so far.
     fn divide_byte(&self, rest: u32, byte: u8) -> u32
         ensures { result ≡ crc_step rest byte }
     {
         (rest / 256) ^ self.entry(0, (rest % 256) as u8 ^ byte)
     }
 
-    /// Divides eight bytes, and so many zeros after them. The first four meet the bytes that are left of those before.
+    /// Divides eight bytes, followed by `after` zero bytes. The remainder `rest` of the earlier bytes is added to the first
+    /// four.
     fn divide_eight(&self, rest: u32, bytes: &[u8], after: usize) -> u32
         requires size { length bytes.now ≡ 8 }
         requires near { after ≤ 8 }
         ensures { result ≡ divided (8 * after) (fold crc_step rest bytes.now) }
     {
         let [a, b, c, d] = rest.to_le_bytes();
-        // What does not wait for the bytes before comes first, so that few steps follow those.
+        // The part that does not depend on earlier bytes comes first, which leaves few steps that have to wait for them.
         let others = self.entry(after + 3, bytes[4])
             ^ self.entry(after + 2, bytes[5])
             ^ self.entry(after + 1, bytes[6])
@@ -90,7 +92,7 @@ impl CrcTables {
         met ^ others
     }
 
-    /// Divides sixteen bytes, the two halves apart from one another.
+    /// Divides sixteen bytes, as two halves that do not depend on each other.
     fn divide_sixteen(&self, rest: u32, bytes: &[u8]) -> u32
         requires { length bytes.now ≡ 16 }
         ensures { result ≡ fold crc_step rest bytes.now }
@@ -100,7 +102,7 @@ impl CrcTables {
         self.divide_eight(rest, first, 8) ^ others
     }
 
-    /// Divides bytes.
+    /// Divides all of `bytes`.
     pub(crate) fn divide(&self, rest: u32, bytes: &[u8]) -> u32
         ensures { result ≡ fold crc_step rest bytes.now }
     {
@@ -117,7 +119,7 @@ impl CrcTables {
         left
     }
 
-    /// Returns the CRC-32 of bytes, as [`crc32`](crate::crc32) does.
+    /// Returns the CRC-32 of `bytes`, as [`crc32`](crate::crc32) does.
     #[tactic(auto, unfolding(crate::specs::Crc::crc32))]
     pub fn of(&self, bytes: &[u8]) -> u32
         ensures { result ≡ crc32 bytes.now }

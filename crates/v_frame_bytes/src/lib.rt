@@ -1,9 +1,9 @@
-//! What files share: bytes are sent, and their CRC-32 is computed, as zlib, gzip and PNG have it.
+//! Utilities for binary files: writing all bytes of a slice, and the CRC-32 that zlib, gzip and PNG use.
 //!
-//! [`send`] writes all of some bytes. [`crc32`] is the CRC-32 of bytes in one piece, [`Crc32Digest`] that of bytes that come
-//! in parts. [`CrcTables`] are made once for many.
+//! [`send`] writes all bytes of a slice. [`crc32`] computes the CRC-32 of one slice, and [`Crc32Digest`] of data that arrives
+//! in parts. [`CrcTables`] are computed once for many checksums.
 //!
-//! Our own. `Rattle.v_frame_bytes.specs.Crc` and `Sending` have the words for clauses.
+//! `Rattle.v_frame_bytes.specs.Crc` and `Rattle.v_frame_bytes.specs.Sending` define the terms that contracts use.
 #![tactic(auto)]
 
 mod crc;

@@ -1,4 +1,4 @@
-//! Writes of all bytes, or of a beginning of them.
+//! Writes all bytes of a slice.
 ghost use Rattle.std.specs.Prelude.{◌≡◌, [], OnErr, OnOk};
 ghost use Rattle.std.specs.Io.KnownBytes.{Appends};
 ghost use Rattle.v_frame_bytes.specs.Sending.{AppendsBeginning};
@@ -6,13 +6,13 @@ ghost use Rattle.v_frame_bytes.specs.Sending.{AppendsBeginning};
 use std::io::{self, ErrorKind};
 use thiserror::Error;
 
-/// Why [`send`] gave up.
+/// Why [`send`] failed.
 #[derive(Debug, Drop, Error)]
 pub enum SendError {
     /// A write failed.
     #[error("write failed: {0}")]
     Write(#[source] io::Error),
-    /// A write took none of the bytes that it was offered.
+    /// A write accepted none of the bytes.
     #[error("write took nothing")]
     WriteZero,
 }
@@ -26,13 +26,13 @@ impl From<SendError> for io::Error {
     }
 }
 
-/// Writes all of these bytes, by as many calls of `write` as it takes.
+/// Writes all of `bytes` to `out`, calling `write` as often as necessary.
 ///
 /// # Errors
 ///
-/// - [`SendError::Write`] if a write fails. An interrupted write counts as a failure and is not retried. A writer that claims
-///   to have written more bytes than `send` offered fails with [`ErrorKind::InvalidData`].
-/// - [`SendError::WriteZero`] if a write takes none of the bytes that `send` offered.
+/// - [`SendError::Write`] if a write fails. An interrupted write counts as failed and is not retried. A writer that claims to
+///   have written more bytes than it was given fails with [`ErrorKind::InvalidData`].
+/// - [`SendError::WriteZero`] if a write accepts none of the bytes.
 ///
 /// After an error, `out` has received a prefix of `bytes`.
 pub fn send<W: io::Write>(out: &mut W, bytes: &[u8]) -> Result<(), SendError>

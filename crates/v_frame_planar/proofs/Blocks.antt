@@ -1,11 +1,11 @@
--- Pixels that are encoded run by run.
+-- Pixels that are encoded in several runs.
 use Rattle.std.proofs.Common.{◌≡◌, List, ◌++◌, None, Some, Option, refl}
 use Rattle.std.proofs.lemmas.Grind.{flat_map-append}
 use Rattle.v_frame.specs.Prelude.{PixelForm, Table, Tables, bytes_of, bytes_of_pixels, row_major}
 use Rattle.v_frame_planar.specs.Planar.{bytes_of_plane, planar_bytes, pixels_of_plane, planar_pixels}
 
 module _ {T : Type 0} (form : PixelForm T) where
-  -- the bytes of two runs
+  -- The bytes of two runs are those of the first, followed by those of the second.
   pub bytes-append : (first rest : List T) → bytes_of_pixels form (first ++ rest) ≡ bytes_of_pixels form first ++
       bytes_of_pixels form rest
   bytes-append first rest = flat_map-append (λ pixel. bytes_of form.size (form.value pixel)) first rest
@@ -15,7 +15,7 @@ module _ {T : Type 0} (form : PixelForm T) where
   bytes_of_absent None = refl
   bytes_of_absent (Some table) = refl
 
-  -- the planar bytes are those of the planar pixels
+  -- The bytes of the planar pixels are the planar bytes.
   pub bytes_of_planar_pixels : (tables : Tables T) → bytes_of_pixels form (planar_pixels tables) ≡ planar_bytes form
       tables
   bytes_of_planar_pixels tables =

@@ -1,4 +1,5 @@
--- Chroma that covers luma: it fits where luma does, and it is that of a builder where all divides.
+-- Chroma that covers luma: it can be laid out if luma can, and it is the chroma of the frame
+-- builder if the sizes are divisible.
 use Rattle.std.proofs.Common.{ℕ, ◌≡◌, ◌/◌, ◌<◌, ◌≤◌, true, ◌==◌, Option, Some, None}
 use Rattle.std.proofs.Common.{Ok, option_map, is_ok, SomeIff, refl, arith}
 use Rattle.std.specs.Int.{div_ceil}
@@ -11,11 +12,11 @@ use Rattle.v_frame.specs.Build.{FrameRequest, luma_geometry}
 use Rattle.v_frame_raster.proofs.ChromaLemmas.{by_ratio}
 use Rattle.v_frame_planar.specs.Video.{covering_geometry}
 
--- a quotient rounded up is none only of nothing
+-- A quotient that is rounded up is 0 only for 0.
 pub ceil_positive : (n ratio : ℕ) → 0 < n → 0 < div_ceil n ratio
 ceil_positive n ratio h = grind (arith, div-add-mod' n ratio)
 
--- and no more than the number
+-- A quotient that is rounded up is at most the number.
 ceil_le : (n ratio : ℕ) → 0 < ratio → div_ceil n ratio ≤ n
 ceil_le n ratio h = omega (arith, mul-le-mul_left (n / ratio) h, div-add-mod' n ratio)
 
@@ -39,17 +40,17 @@ module _ (g : Geometry) (x y : ℕ) (some_x : 0 < x) (some_y : 0 < y) where
     stride_fits = omega (arith, stride_of_cover, is.stride_fits);
   }
 
--- where a geometry can be laid out, it is the one that was made
+-- If a geometry can be laid out, it is the one that was returned.
 pub laid_out : (made : Option Geometry) (given g : Geometry) → SomeIff made (IsGeometry given) given → given ≡ g →
     IsGeometry g → made ≡ Some g
 laid_out None given g none same is = absurd (none (rw same is))
 laid_out (Some x) given g both same is = cc
 
--- an exact quotient is the quotient rounded up
+-- An exact quotient equals the quotient that is rounded up.
 exact_ceil : (n ratio : ℕ) → has_quotient n ratio ≡ true → div_ceil n ratio ≡ n / ratio
 exact_ceil n ratio e = omega (arith, eqb-true _ n e, div-add-mod' n ratio)
 
--- where all divides, to cover luma is to divide it
+-- If the sizes are divisible, the covering geometry is the divided one.
 divided_covers : (x y : ℕ) (g : Geometry) → is_divisible x y g ≡ true → covering_geometry g (x, y) ≡ divided_geometry x
     y g
 divided_covers x y g e =
@@ -60,14 +61,14 @@ module _ (request : FrameRequest) where
   abbrev luma : Geometry
   luma = luma_geometry request
 
-  -- chroma at the size of luma is laid out as luma is
+  -- Chroma of the same size as luma has the geometry of luma.
   whole_covers : covering_geometry luma (1, 1) ≡ luma
   whole_covers =
       let width : div_ceil luma.width 1 ≡ luma.width = omega arith in
       let height : div_ceil luma.height 1 ≡ luma.height = omega arith in
       rw (width, height) (simp div-one)
 
-  -- where a builder accepts the ratio, it lays chroma out so
+  -- If the frame builder accepts the ratio, its chroma has the covering geometry.
   pub subsampled_covers : (ratio : Option (ℕ × ℕ)) → is_ok (subsampled_by ratio luma) ≡ true
       → subsampled_by ratio luma ≡ Ok (option_map (covering_geometry luma) ratio)
   subsampled_covers None = λ ok. refl

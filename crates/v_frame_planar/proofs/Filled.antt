@@ -1,4 +1,4 @@
--- What a plane of one value shows: a table of that value.
+-- The table of a plane that is filled with one value.
 use Rattle.std.proofs.Common.{ℕ, zero, suc, ◌≡◌, ◌-◌, ◌*◌, ◌≤◌, List, [], ◌++◌, drop, replicate, refl, ◌∙◌, arith}
 use Rattle.std.proofs.lemmas.List.{take-replicate, drop-replicate}
 use Rattle.v_frame.specs.Prelude.{Geometry, Table, stride_of, alloc_size_of, filled, table_of}
@@ -7,11 +7,11 @@ use Rattle.v_frame_raster.specs.Raster.{cut_by, visible_pieces}
 use Rattle.v_frame_planar.specs.Video.{plain_table}
 
 module _ {T : Type 0} (value : T) (g : Geometry) where
-  -- what a plan shows of so many values
+  -- The table that a plan cuts from copies of the value.
   abbrev shown : List Piece → List T → Table T
   shown plan xs = visible_pieces (cut_by plan xs)
 
-  -- rows of the border show nothing
+  -- Rows of the border are not in the table.
   past_outer : (rest : List Piece) (k n : ℕ) → shown (times k (outer_row g) ++ rest) (replicate n value) ≡ shown rest
       (replicate (n - k * stride_of g) value)
   past_outer rest zero n = let all : n - 0 * stride_of g ≡ n = omega arith in rw all
@@ -23,7 +23,7 @@ module _ {T : Type 0} (value : T) (g : Geometry) where
   only_outer zero xs = refl
   only_outer (suc k) xs = only_outer k (drop (stride_of g) xs)
 
-  -- each row that crosses the rectangle shows as many as it is wide
+  -- Each row that crosses the rectangle has the width of the table.
   crossing : (k n : ℕ) → k * stride_of g ≤ n → shown (times k (crossing_row g) ++ times g.pad_bottom (outer_row g))
       (replicate n value) ≡ replicate k
       (replicate g.width value)

@@ -1,5 +1,5 @@
--- What decides whether a frame of any size can be made: a padding that is too large to be counted
--- may stand for one that is larger still.
+-- The conditions for making a frame of any size. A padding that is too large for `usize` may be
+-- replaced by the largest `usize`.
 use Rattle.std.proofs.Common.{ℕ, zero, suc, ◌≡◌, ◌*◌, ◌<◌, ◌≤◌, min, true, ◌&&◌, Option, Some, None}
 use Rattle.std.proofs.Common.{Result, Ok, Err, option_map, refl, ◌∙◌, ap, arith}
 use Rattle.std.specs.Prelude.{MatchOption, IsOkUnless, IfOk, is_ok}
@@ -28,7 +28,7 @@ module _ (width height : ℕ) where
   abbrev padded : ℕ → ℕ → Geometry
   padded across down = geometry_of width height across across down down 1 1
 
-  -- what is laid out has rows, and paddings that can be counted
+  -- A plane that can be laid out has rows, and its padding fits into `usize`.
   counted : (across down : ℕ) → is_laid_out (padded across down) ≡ true → (0 < height) × (across < usize_max) ×
       (down < usize_max)
   counted across down e =
@@ -42,7 +42,7 @@ module _ (width height : ℕ) where
   uncut : (n : ℕ) → min n usize_max < usize_max → min n usize_max ≡ n
   uncut n small = omega arith
 
-  -- a padding that is cut to what can be counted decides as it would
+  -- Replacing a padding that is too large does not change whether the plane can be laid out.
   cut_decides : (across down : ℕ) → is_laid_out (padded (min across usize_max) (min down usize_max)) ≡ is_laid_out
       (padded across down)
   cut_decides across down =
@@ -50,14 +50,14 @@ module _ (width height : ℕ) where
       (λ whole. let small = counted _ _ whole in rw
       (uncut across (omega (arith, small)), uncut down (omega (arith, small))) whole)
 
--- what goes on from a value may be refused memory
+-- After a result without an error, the next step may run out of memory.
 pub value_goes_on : {X Y : Type 0} (r : Result X FrameError) (s : Result Y FrameError) (o : FrameError)
     (due : Option FrameError) (x : X) → r ≡ Ok x
     → IsOkUnless s o → MatchOption due (IsOkUnless r o) (λ fault. r ≡ Err fault) → MatchOption due (IsOkUnless s o)
     (λ fault. s ≡ Err fault)
 value_goes_on r s o due x was is h = grind arith
 
--- where a builder accepts the whole request, it can lay out luma, and chroma
+-- If the frame builder accepts the whole request, luma and chroma can be laid out.
 lays_out : (bytes : ℕ) (request : FrameRequest) → refusal_of bytes request ≡ None
     → (is_laid_out (luma_geometry request) ≡ true) ×
     (is_ok (subsampled request.subsampling (luma_geometry request)) ≡ true)
@@ -66,13 +66,13 @@ lays_out bytes request h =
     true = grind arith in
     and_parts _ _ both
 
--- what was made is not refused
+-- A frame that was made was not rejected.
 accepted : {X : Type 0} (due : Option FrameError) (o : FrameError) (x : X) → MatchOption due (IsOkUnless (Ok x) o)
     (λ fault. Ok x ≡ Err fault) → due ≡ None
 accepted due o x h = grind arith
 
 module _ {T : Type 0} (value : T) where
-  -- the size of a table of one value that has rows
+  -- A table of one value that has rows has the requested size.
   plain_size : (size : ℕ × ℕ) → 0 < size.1 → size_of (plain_table value size) ≡ size
   plain_size (width, zero) some = absurd (omega (arith, some))
   plain_size (width, suc n) some = simp length-replicate
@@ -90,7 +90,7 @@ module _ {T : Type 0} (value : T) where
   chroma_table g None = refl
   chroma_table g (Some ratio) = rw (table_of_filled value (covering_geometry g ratio))
 
-  -- a blank frame is the one that a builder makes, where it accepts the request
+  -- A blank frame equals the one of the frame builder, if the builder accepts the request.
   is_as_built : (bytes : ℕ) (request : FrameRequest) (frame : Frame T) → IsBlankVideo value request frame → refusal_of
       bytes request ≡ None
       → IsBlank value request frame
@@ -110,14 +110,14 @@ module _ {T : Type 0} (value : T) where
     abbrev asked : FrameRequest
     asked = video_request width height s depth padding
 
-    -- luma, with paddings that are cut to what can be counted
+    -- The request for luma, with a padding that is replaced if it is too large.
     abbrev cut : FrameRequest
     cut = luma_request width height depth (min asked.pad_left usize_max) (min asked.pad_top usize_max)
 
     abbrev decides : is_laid_out (luma_geometry cut) ≡ is_laid_out (luma_geometry asked)
     decides = cut_decides width height asked.pad_left asked.pad_top
 
-    -- it is refused for the same reason, and made as it was asked for
+    -- It is rejected for the same reason, and otherwise luma is as requested.
     pub luma_as_asked : (built : Result (Frame T) FrameError) (o : FrameError)
         → MatchOption (refusal_of bytes cut) (IsOkUnless built o) (λ fault. built ≡ Err fault) → IfOk built
         (IsBlank value cut)
@@ -136,14 +136,14 @@ module _ {T : Type 0} (value : T) where
           },
         )
 
-    -- what a blank frame shows
+    -- The tables of a blank frame.
     tables_of_blank : (frame : Frame T) → IsBlankVideo value asked frame → tables_of frame ≡ plain_tables value width
         height s
     tables_of_blank frame blank =
         let luma = luma_geometry asked in
         rw (blank.y_plane, blank.u_plane, blank.v_plane, table_of_filled value luma, chroma_table luma (ratio_of s))
 
-    -- all that is reported of a blank frame, where there is one
+    -- All facts about a blank frame that are reported, if there is one.
     pub told_of_blank : (result : Result (Frame T) FrameError) → 0 < height → IfOk result (IsBlankVideo value asked)
         → IfOk result (λ frame. tables_of frame ≡ plain_tables value width height s)
         × IfOk result (λ frame. sizes_of (tables_of frame) ≡

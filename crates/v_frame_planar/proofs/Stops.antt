@@ -1,4 +1,5 @@
--- A writer that gave up inside a block has a beginning of all bytes, and a reader is as it was where there was no room.
+-- A writer that fails inside a block has received a beginning of all bytes, and a reader is
+-- unchanged if memory runs out.
 use Rattle.std.proofs.Common.{ℕ, ◌≡◌, ◌+◌, ◌<◌, ◌≤◌, ◌≢◌, ◌⊎◌, ⊎_elim, Bool, true, false, List, ◌++◌, length, take}
 use Rattle.std.proofs.Common.{take_all, Option}
 use Rattle.std.proofs.Common.{Result, Ok, Err, IfErr, IsErrAnd, refl, ◌∙◌, arith, length-append, length-take-le}
@@ -34,7 +35,7 @@ module _ (front part rest : List ℕ) where
   stops_later contents old mid new sent same Failed stopped = (later _ _ _ sent stopped.0, rw same at stopped.1)
   stops_later contents old mid new sent same TookNothing stopped = (later _ _ _ sent stopped.0, stopped.1 ∙ same)
 
--- where there was no room for so many bytes, nothing was read
+-- If memory for n bytes is not available, nothing was read.
 pub no_room : {R : Type 0} (remaining : R → Option (List ℕ)) (reader : Watched R) (n : ℕ)
     (result : Result Bool PlanarError) (error : PlanarError)
     → IsErrAnd result (λ given. given ≡ error) → ((error ≡ OutOfMemory) × (n ≤ isize_max)) ⊎
@@ -44,12 +45,12 @@ no_room remaining reader n (Ok more) error is why = tt
 no_room remaining reader n (Err given) error is why = rw is
     (⊎_elim (λ refused. rw refused.0 (refused.1, refl)) (λ large. rw large.0 (large.1, refl)) why)
 
--- a reader that gave the first bytes of a buffer, and where it gave not all, stands at its end
+-- A reader that filled only the front of a buffer is at its end.
 module _ {R : Type 0} (remaining : R → Option (List ℕ)) (old new : Watched R) (bytes : List ℕ) (found : ℕ)
     (got : Consumes (remaining old.inner) (remaining new.inner) (take found bytes))
     (end : found < length bytes → IsAtEnd (remaining new.inner))
     (X : Type 0) where
-  -- what was shown is what was read, or nothing was
+  -- The bytes in the frame are those that were read, or nothing was read.
   pub was_read : (all : List ℕ) (result : Result Bool PlanarError)
       → IfOk result (λ more. MatchBool more ((found ≡ length bytes) × (all ≡ bytes))
       ((found ≡ 0) × (found ≢ length bytes) × X))
@@ -59,7 +60,7 @@ module _ {R : Type 0} (remaining : R → Option (List ℕ)) (old new : Watched R
   was_read all (Ok false) shown = (rw shown.0 at got, end (omega (arith, shown)))
   was_read all (Err error) shown = tt
 
-  -- an error comes of a frame that came to its end
+  -- The error is that of a stream that ended inside a frame.
   pub was_truncated : (n : ℕ) (result : Result Bool PlanarError) → length bytes ≡ n → found ≤ length bytes →
       new.failures ≡ old.failures
       → IfErr result (λ error. (error ≡ Truncated (length bytes) found) × (found ≢ 0) × (found ≢ length bytes) × X)

@@ -1,5 +1,5 @@
--- A reader or a writer whose failures are counted, with the kind of the last one, and what is left
--- of a writer that gave up.
+-- A reader or a writer with a count of its failures and the kind of the last one, and the contents
+-- of a writer after a failed write.
 use Rattle.std.specs.Prelude.{ℕ, ◌≡◌, ◌+◌, ◌-◌, ◌^◌, min, List, Option, IsSome}
 use Rattle.std.specs.declared.io.ErrorKind.{ErrorKind}
 pub use Rattle.v_frame_bytes.specs.Sending.{AppendsBeginning}
@@ -11,15 +11,15 @@ pub record Watched (D : Type 0) : Type 0 where
   pub failures : ℕ
   pub last_failure : Option ErrorKind
 
--- the count stays here
+-- The largest value of the count, at which it saturates.
 abbrev pub u64_max : ℕ
 u64_max = 2 ^ 64 - 1
 
--- between the two counts one call failed, which a count that is at its end can't show
+-- One call failed between the two counts. The count does not change if it is saturated.
 abbrev pub HasFailed : ℕ → ℕ → Type 0
 HasFailed old new = new ≡ min (old + 1) u64_max
 
--- what a fault leaves of a writer that was to write these bytes
+-- The effect of a failed write of these bytes on the writer.
 module _ {W : Type 0} (contents : W → Option (List ℕ)) (old new : Watched W) (bytes : List ℕ) where
   abbrev pub StopsWriting : WriteFault → Type 0
   StopsWriting Failed =
@@ -29,7 +29,7 @@ module _ {W : Type 0} (contents : W → Option (List ℕ)) (old new : Watched W)
       AppendsBeginning (contents old.inner) (contents new.inner) bytes
       × (new.failures ≡ old.failures)
 
--- where a write failed, the kind of its error is reported, and else the last failure is as before
+-- If a write failed, the kind of its error is recorded. Otherwise the last failure is unchanged.
 abbrev pub TellsWriteCause : Option ErrorKind → Option ErrorKind → WriteFault → Type 0
 TellsWriteCause old new Failed = IsSome new
 TellsWriteCause old new TookNothing = new ≡ old

@@ -1,4 +1,4 @@
-//! Readers and writers whose failures are counted, with the kind of the last one.
+//! Readers and writers with a count of their failures and the kind of the last one.
 ghost use Rattle.std.specs.Prelude.{◌≡◌, None, Some, [], IfErr, MatchResult, OnOk, OnErr};
 ghost use Rattle.std.specs.Io.KnownBytes.{Appends, Keeps, ReadConsumes, WriteAppends};
 ghost use Rattle.std.specs.Io.{ReadsAtMost, WritesAtMost};
@@ -9,16 +9,16 @@ use std::io;
 use std::marker::Model;
 use v_frame_bytes::{SendError, send};
 
-/// Why [`Counted::write_all`] gave up.
+/// Why [`Counted::write_all`] failed.
 #[derive(Debug, PartialEq, Eq, Drop)]
 pub enum WriteFault {
     /// A write failed.
     Failed,
-    /// A write took none of the bytes that it was offered.
+    /// A write accepted none of the bytes.
     TookNothing,
 }
 
-/// A reader or a writer, how often it failed, and why the last time.
+/// A reader or a writer, with the number of its failed calls and the kind of the last error.
 #[derive(Drop)]
 pub struct Counted<D> {
     inner: D,
@@ -39,7 +39,7 @@ impl<D> Model for Counted<D> {
 }
 
 impl<D> Counted<D> {
-    /// Wraps a reader or a writer, of which no failure has been counted.
+    /// Wraps a reader or a writer, with a count of 0 failures.
     pub fn new(inner: D) -> Self
         ensures { result ≡ record { inner = inner; failures = 0; last_failure = None } }
     {
@@ -57,36 +57,35 @@ impl<D> Counted<D> {
         &self.inner
     }
 
-    /// Returns a reference to the wrapped reader or writer. The wrappers of `std` use this name for
-    /// [`inner`](Self::inner).
+    /// Returns a reference to the wrapped reader or writer, like [`inner`](Self::inner). The wrappers of `std` use this name.
     pub fn get_ref(&self) -> &D
         ensures { result.now ≡ self.now.inner }
     {
         self.inner()
     }
 
-    /// Returns the reader or the writer back.
+    /// Returns the wrapped reader or writer.
     pub fn into_inner(self) -> D
         ensures { result ≡ self.inner }
     {
         self.inner
     }
 
-    /// Returns how often a read, a write or a flush failed. It saturates at `u64::MAX`.
+    /// Returns the number of reads, writes and flushes that failed. It saturates at `u64::MAX`.
     pub fn failures(&self) -> u64
         ensures { result ≡ self.now.failures }
     {
         self.failures
     }
 
-    /// Returns the kind of the last error that the reader or the writer answered. `None` where it has answered none yet.
+    /// Returns the kind of the last error of the reader or the writer, or `None` if no call has failed yet.
     pub fn last_failure(&self) -> Option<io::ErrorKind>
         ensures { result ≡ self.now.last_failure }
     {
         self.last_failure
     }
 
-    /// Counts a failure and keeps its kind, where it is one.
+    /// Counts a failure and keeps its kind, if `answer` is an error.
     fn note<T>(&mut self, answer: &io::Result<T>)
         ensures inner { self.new.inner ≡ self.old.inner }
         ensures failures { MatchResult answer.now (λ _. self.new.failures ≡ self.old.failures)
@@ -112,11 +111,11 @@ impl<D> Counted<D> {
 }
 
 impl<D: io::Read> Counted<D> {
-    /// Calls `read` of the reader once. If that call fails, also if it is interrupted, the failure is counted.
+    /// Calls `read` of the reader once. If it fails, the failure is counted. That includes interrupted reads.
     ///
     /// # Errors
     ///
-    /// The error of the reader; [`InvalidData`](io::ErrorKind::InvalidData) if the reader claims to have read more bytes than
+    /// The error of the reader, or [`InvalidData`](io::ErrorKind::InvalidData) if the reader claims to have read more bytes than
     /// `buf` holds.
     pub fn read(&mut self, buf: &mut [u8]) -> io::Result<usize>
         ensures bound { ReadsAtMost result buf.new }
@@ -137,11 +136,11 @@ impl<D: io::Read> Counted<D> {
 }
 
 impl<D: io::Write> Counted<D> {
-    /// Calls `write` of the writer once. If that call fails, also if it is interrupted, the failure is counted.
+    /// Calls `write` of the writer once. If it fails, the failure is counted. That includes interrupted writes.
     ///
     /// # Errors
     ///
-    /// The error of the writer; [`InvalidData`](io::ErrorKind::InvalidData) if the writer claims to have written more bytes
+    /// The error of the writer, or [`InvalidData`](io::ErrorKind::InvalidData) if the writer claims to have written more bytes
     /// than `buf` holds.
     pub fn write(&mut self, buf: &[u8]) -> io::Result<usize>
         ensures bound { WritesAtMost result buf.now }
@@ -160,7 +159,7 @@ impl<D: io::Write> Counted<D> {
         result
     }
 
-    /// One call of `flush` of the writer: what it has taken and still keeps goes on its way. An error of it is counted.
+    /// Calls `flush` of the writer once, so that it forwards buffered bytes. If it fails, the failure is counted.
     pub fn flush(&mut self) -> io::Result<()>
         ensures bytes { Keeps (D.contents self.old.inner) (D.contents self.new.inner) }
         ensures ok { OnOk result (self.new.failures ≡ self.old.failures) }
@@ -173,13 +172,15 @@ impl<D: io::Write> Counted<D> {
         result
     }
 
-    /// Writes all of these bytes, by as many calls of `write` as it takes.
+    /// Writes all of `bytes`, calling `write` as often as necessary.
     ///
     /// # Errors
     ///
-    /// [`WriteFault::Failed`] where a write failed, an interrupted one too, which is not tried again, and
-    /// [`WriteFault::TookNothing`] where a write took none of the bytes that it was offered. Then a beginning of the bytes
-    /// was written. Why a write failed, [`last_failure`](Self::last_failure) says.
+    /// - [`WriteFault::Failed`] if a write fails. An interrupted write counts as failed and is not retried.
+    ///   [`last_failure`](Self::last_failure) returns the cause.
+    /// - [`WriteFault::TookNothing`] if a write accepts none of the bytes.
+    ///
+    /// Part of the bytes may have been written then.
     pub fn write_all(&mut self, bytes: &[u8]) -> Result<(), WriteFault>
         ensures ok { OnOk result (Appends (D.contents self.old.inner) (D.contents self.new.inner)
             bytes.now) }

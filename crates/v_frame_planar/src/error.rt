@@ -1,18 +1,18 @@
-//! Why a frame was not read, or not written.
+//! Errors of reading and writing the planar bytes of frames.
 
 use crate::counted::WriteFault;
 use std::alloc::AllocError;
 use thiserror::Error;
 
-/// Why [`read_frame`](crate::read_frame) or [`write_frame`](crate::write_frame) gave up.
+/// Why [`read_frame`](crate::read_frame) or [`write_frame`](crate::write_frame) failed.
 #[derive(Debug, PartialEq, Eq, Drop, Error)]
 pub enum PlanarError {
-    /// The reader came to its end inside a frame.
+    /// The reader reached its end inside a frame.
     #[error("truncated frame, expected {expected} bytes, found {found}")]
     Truncated {
-        /// How many bytes a frame has.
+        /// The number of bytes of a frame.
         expected: usize,
-        /// How many there were.
+        /// The number of bytes that were read.
         found: usize,
     },
     /// The frame has more than `isize::MAX` bytes.
@@ -24,10 +24,10 @@ pub enum PlanarError {
     /// A write failed.
     #[error("write failed")]
     Write,
-    /// A write took none of the bytes that it was offered.
+    /// A write accepted none of the bytes.
     #[error("write took nothing")]
     WriteZero,
-    /// A request for memory was refused.
+    /// A memory allocation failed.
     #[error("out of memory")]
     OutOfMemory,
 }

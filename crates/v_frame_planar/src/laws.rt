@@ -1,4 +1,4 @@
-//! Laws of planar bytes. Each is the contract of a function, for callers that have frames at hand.
+//! Laws of planar bytes. Each law is the contract of a function that callers call with their own frames.
 ghost use Rattle.std.specs.Prelude.{◌≡◌, length};
 ghost use Rattle.v_frame.specs.Prelude.{tables_of};
 ghost use Rattle.v_frame_planar.specs.Planar.{byte_count, planar_bytes, sizes_of};
@@ -7,7 +7,8 @@ use crate::reading::chroma_len;
 use v_frame::frame::Frame;
 use v_frame::pixel::Pixel;
 
-/// Frames whose planes have the same sizes have as many planar bytes. So what was written of the one, the other reads whole.
+/// Two frames whose planes have the same sizes have the same number of planar bytes. So the bytes that were written of one
+/// frame fill the other exactly.
 pub fn same_sizes_same_byte_count<T: Pixel>(first: &Frame<T>, second: &Frame<T>)
     ensures { sizes_of (tables_of first.now) ≡ sizes_of (tables_of second.now)
         → length (planar_bytes T.form (tables_of first.now))
@@ -17,12 +18,12 @@ pub fn same_sizes_same_byte_count<T: Pixel>(first: &Frame<T>, second: &Frame<T>)
     measure(second);
 }
 
-/// Counts the planar bytes of a frame by the sizes of its planes.
+/// The number of planar bytes of a frame follows from the sizes of its planes.
 fn measure<T: Pixel>(frame: &Frame<T>)
     ensures { length (planar_bytes T.form (tables_of frame.now))
         ≡ byte_count T.form.size (sizes_of (tables_of frame.now)) }
 {
-    // No count is used: what the clauses of these calls say is the proof.
+    // The numbers are not used: the contracts of these calls are the whole proof.
     let _y = frame.y_plane.byte_len();
     let _u = chroma_len(&frame.u_plane);
     let _v = chroma_len(&frame.v_plane);

@@ -1,15 +1,17 @@
-//! Raw planar video: frames read from any reader, and written to any writer.
+//! Raw planar video: reads frames from any reader and writes them to any writer.
 //!
-//! The planar bytes of a frame are those of Y, then those of U and of V where it has them: the visible pixels of each
-//! plane, row after row, each with its low byte first. Decoders write video so, and encoders read it. Nothing in front of a
-//! frame says its size, so a reader needs a frame of the right sizes to read into. [`video_frame`] makes one of any size,
-//! odd ones too, of which a builder makes none.
+//! The planar bytes of a frame are the bytes of the plane Y, followed by those of U and V if the frame has chroma. The bytes of
+//! a plane are its visible pixels, row by row from the top, each in little-endian byte order. This is the layout of raw YUV
+//! files.
 //!
-//! Contracts name the bytes of a reader or a writer where its type says which they are. Of the writers over memory, `Vec<u8>`
-//! and `VecDeque<u8>` do, and what wraps them, as a `Box` or a `BufWriter`; a `Cursor` and `&mut [u8]` don't. Of the readers
-//! over memory `&[u8]`, `VecDeque<u8>` and a `Cursor` do.
+//! Raw video does not state its size, so a frame of the right size must exist before it can be read. [`video_frame`] allocates
+//! a frame of any size, including odd sizes, which the frame builder rejects for subsampled formats.
 //!
-//! Our own. `Rattle.v_frame_planar.specs.Planar` has the words for clauses.
+//! Contracts can state the bytes of a reader or a writer only if its type defines them. Among the writers in memory, contracts
+//! know the bytes of `Vec<u8>`, of `VecDeque<u8>` and of their wrappers, such as `Box` and `BufWriter`, but not those of
+//! `Cursor` and `&mut [u8]`. Among the readers in memory, contracts know the bytes of `&[u8]`, `VecDeque<u8>` and `Cursor`.
+//!
+//! `Rattle.v_frame_planar.specs.Planar` defines the terms that contracts use.
 #![tactic(auto)]
 
 mod counted;

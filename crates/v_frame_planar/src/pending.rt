@@ -1,4 +1,4 @@
-//! The pixels of a frame that are still to be written, encoded block by block.
+//! Encodes the pixels of a frame block by block.
 ghost use Rattle.std.specs.Prelude.{◌≡◌, ◌+◌, ◌*◌, ◌<◌, ◌≤◌, ◌⊎◌, ◌++◌, [], false, true, length, take, option_map, MatchOption};
 ghost use Rattle.v_frame.specs.Prelude.{bytes_of_pixels, table_of, tables_of};
 ghost use Rattle.v_frame_planar.specs.Pending.{row_count};
@@ -8,7 +8,7 @@ use v_frame::frame::Frame;
 use v_frame::pixel::{Pixel, encode_row};
 use v_frame::plane::{Plane, Rows};
 
-/// What is left of the row that was begun, and the rows of each plane after it.
+/// The pixels of a frame that are still to be encoded: the rest of the current row, and the remaining rows of each plane.
 #[derive(Drop)]
 pub(crate) struct Pending<'a, T> {
     row: &'a [T],
@@ -20,7 +20,7 @@ pub(crate) struct Pending<'a, T> {
 impl<'a, T: Pixel> Pending<'a, T> {
     ghost use Rattle.v_frame_planar.specs.Pending.{pixels_pending, pixels_behind, rows_behind};
 
-    /// All pixels of a frame.
+    /// Begins with all pixels of a frame.
     pub(crate) fn new(frame: &'a Frame<T>) -> Self
         ensures { pixels_pending result ≡ planar_pixels (tables_of frame.now) }
     {
@@ -32,7 +32,7 @@ impl<'a, T: Pixel> Pending<'a, T> {
         }
     }
 
-    /// Encodes pixels until no other one fits the block, and returns how many bytes they have.
+    /// Encodes pixels into `block` until no other pixel fits or none is left, and returns the number of bytes encoded.
     pub(crate) fn fill(&mut self, block: &mut [u8]) -> usize
         requires { 2 ≤ length block.old }
         ensures bound { result ≤ length block.new }
@@ -54,7 +54,7 @@ impl<'a, T: Pixel> Pending<'a, T> {
         filled
     }
 
-    /// Begins the next row where the last one came to its end. False where there is none.
+    /// Begins the next row if the current one has been encoded. Returns `false` if no row is left.
     fn begin_row(&mut self) -> bool
         ensures pixels { pixels_pending self.new ≡ pixels_pending self.old }
         ensures progress { result ≡ true → (0 < length self.new.row.now)
@@ -71,7 +71,7 @@ impl<'a, T: Pixel> Pending<'a, T> {
         true
     }
 
-    /// Returns the next row that was not begun.
+    /// Returns the next row.
     fn next_row(&mut self) -> Option<&'a [T]>
         ensures row { self.new.row ≡ self.old.row }
         ensures rows { MatchOption result (rows_behind self.new ≡ rows_behind self.old)
@@ -90,7 +90,7 @@ impl<'a, T: Pixel> Pending<'a, T> {
     }
 }
 
-/// Returns the rows of a plane, where it is there.
+/// Returns the rows of a plane, if it is present.
 fn rows_of<T>(plane: &Option<Plane<T>>) -> Option<Rows<'_, T>>
     ensures { result ≡ option_map table_of plane.now }
 {
@@ -100,7 +100,7 @@ fn rows_of<T>(plane: &Option<Plane<T>>) -> Option<Rows<'_, T>>
     }
 }
 
-/// Returns the next row of a plane, where it is there.
+/// Returns the next row of a plane, if the plane is present and has one.
 fn next_of<'a, T>(rows: &mut Option<Rows<'a, T>>) -> Option<&'a [T]>
     ensures count { MatchOption result (row_count rows.new ≡ row_count rows.old)
         (λ row. row_count rows.new < row_count rows.old) }

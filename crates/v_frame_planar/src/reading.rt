@@ -1,4 +1,4 @@
-//! Frames from their planar bytes.
+//! Reads frames from their planar bytes.
 ghost use Rattle.std.specs.Prelude.{◌≡◌, ◌≢◌, ◌<◌, ◌≤◌, ◌⊎◌, false, length, min, take, option_map, Err, IfOk, IfErr, MatchBool, MatchResult, OnOk, OnErr};
 ghost use Rattle.std.specs.Io.KnownBytes.{Consumes, IsAtEnd};
 ghost use Rattle.v_frame.specs.Prelude.{isize_max, usize_max, KeepsBorders, table_of, tables_of};
@@ -14,19 +14,22 @@ use v_frame::frame::Frame;
 use v_frame::pixel::Pixel;
 use v_frame::plane::Plane;
 
-/// Reads the planar bytes of a frame and shows them in it. `false` where the reader stood at its end before the first byte.
+/// Reads the planar bytes of the next frame into `frame`. Returns `false` if the reader was at its end.
 ///
-/// The sizes of the frame say how many bytes it has, and no more are asked for: what stands after them is left for the
-/// next call. The border stays. Room for all the bytes is taken before the first is read, and they are shown when the last
-/// one has come, so a frame that was not read whole is as it was.
+/// The sizes of the planes of `frame` determine how many bytes are read. Nothing after them is consumed. The padding of `frame`
+/// is unchanged. The call allocates a buffer for all bytes of the frame before it reads the first one, and changes `frame` only
+/// after it has read the last one.
 ///
 /// # Errors
 ///
-/// [`PlanarError::TooLarge`] where the frame has more than `isize::MAX` bytes, else [`PlanarError::OutOfMemory`] where the
-/// request for memory was refused: for these nothing was read. [`PlanarError::Read`] where a read failed, an interrupted one
-/// too, which is not tried again; [`Counted::last_failure`] says why. [`PlanarError::Truncated`] where the reader came to its end
-/// inside the frame. After each of them the frame is as it was. The bytes that came before the last two are lost: a next call
-/// would begin inside the frame.
+/// - [`PlanarError::TooLarge`] if the frame has more than `isize::MAX` bytes. Nothing was read then.
+/// - [`PlanarError::OutOfMemory`] if the allocation fails. Nothing was read then.
+/// - [`PlanarError::Read`] if a read fails. An interrupted read counts as failed and is not retried. [`Counted::last_failure`]
+///   returns the cause.
+/// - [`PlanarError::Truncated`] if the reader reaches its end inside the frame.
+///
+/// After an error, `frame` is unchanged. After the last two, the bytes read so far are lost, so the next call would begin
+/// inside the frame.
 pub fn read_frame<T: Pixel, R: io::Read>(
     alloc: Global,
     reader: &mut Counted<R>,
@@ -54,7 +57,8 @@ pub fn read_frame<T: Pixel, R: io::Read>(
     store_whole_frame(frame, bytes.as_slice(), found)
 }
 
-/// Shows the planar bytes of a frame where all of them were found. `false` where none was.
+/// Stores the bytes of a frame in `frame`, if all of them were read. `found` is the number of bytes read. Returns `false` if it
+/// is 0.
 fn store_whole_frame<T: Pixel>(
     frame: &mut Frame<T>,
     bytes: &[u8],
@@ -83,7 +87,7 @@ fn store_whole_frame<T: Pixel>(
     Err(PlanarError::Truncated { expected, found })
 }
 
-/// Room for the planar bytes of a frame.
+/// Allocates a buffer for the planar bytes of a frame.
 fn allocate<T: Pixel>(alloc: Global, frame: &Frame<T>) -> Result<Vec<u8>, PlanarError>
     ensures room { IfOk result (λ bytes.
         length bytes.items ≡ length (planar_bytes T.form (tables_of frame.now))) }
@@ -103,8 +107,8 @@ fn allocate<T: Pixel>(alloc: Global, frame: &Frame<T>) -> Result<Vec<u8>, Planar
     Ok(bytes)
 }
 
-/// Returns how many planar bytes a frame has: as many as [`read_frame`] asks for, and [`write_frame`](crate::write_frame)
-/// writes. The count saturates at `usize::MAX`.
+/// Returns the number of planar bytes of a frame, which is the number of bytes that [`read_frame`] reads and
+/// [`write_frame`](crate::write_frame) writes. It saturates at `usize::MAX`.
 pub fn planar_len<T: Pixel>(frame: &Frame<T>) -> usize
     ensures value { result ≡ min (length (planar_bytes T.form (tables_of frame.now))) usize_max }
     ensures sizes { result ≡ min (byte_count T.form.size (sizes_of (tables_of frame.now))) usize_max }
@@ -113,7 +117,7 @@ pub fn planar_len<T: Pixel>(frame: &Frame<T>) -> usize
     frame.y_plane.byte_len().saturating_add(chroma)
 }
 
-/// Returns how many bytes a chroma plane has, none where it is absent.
+/// Returns the number of bytes of a chroma plane, or 0 if it is absent.
 pub(crate) fn chroma_len<T: Pixel>(plane: &Option<Plane<T>>) -> usize
     ensures value { result ≡ length (bytes_of_plane T.form (option_map table_of plane.now)) }
     ensures size { result
@@ -126,12 +130,12 @@ pub(crate) fn chroma_len<T: Pixel>(plane: &Option<Plane<T>>) -> usize
     }
 }
 
-/// Fills a buffer from a reader, and returns how much of it was filled before the reader came to its end.
+/// Reads until `buf` is full or the reader is at its end, and returns the number of bytes read.
 ///
 /// # Errors
 ///
-/// [`PlanarError::Read`] where a read failed, an interrupted one too, which is not tried again; [`Counted::last_failure`] says
-/// why.
+/// [`PlanarError::Read`] if a read fails. An interrupted read counts as failed and is not retried. [`Counted::last_failure`]
+/// returns the cause.
 pub fn read_until_full<R: io::Read>(
     reader: &mut Counted<R>,
     buf: &mut [u8],

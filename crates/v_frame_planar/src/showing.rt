@@ -1,4 +1,4 @@
-//! Frames that show planar bytes.
+//! Stores planar bytes in frames.
 ghost use Rattle.std.specs.Prelude.{◌≡◌, ◌-◌, ◌++◌, ◌≤◌, drop, length, option_map, Some};
 ghost use Rattle.v_frame.specs.Prelude.{byte_list, border_and_geometry, KeepsBorders, table_of, tables_of};
 ghost use Rattle.v_frame_planar.specs.Planar.{bytes_of_plane, plane_byte_count, planar_bytes, size_of, sizes_of};
@@ -8,10 +8,10 @@ use v_frame::frame::Frame;
 use v_frame::pixel::Pixel;
 use v_frame::plane::Plane;
 
-/// Shows the planar bytes of a frame in it: those of Y, then of U, then of V, row after row from the top. A pixel of `u8` has one
-/// byte, and one of `u16` two, the lower one first.
+/// Stores the planar bytes of a frame in `frame`: those of Y, then of U, then of V, row by row from the top. A pixel of type
+/// `u8` has one byte, and a pixel of type `u16` has two, in little-endian order.
 ///
-/// There must be as many bytes as [`planar_len`](crate::planar_len) says. The border stays.
+/// The length of `bytes` must be [`planar_len`](crate::planar_len) of the frame. The padding of `frame` is unchanged.
 pub fn show_planar_bytes<T: Pixel>(frame: &mut Frame<T>, bytes: &[u8])
     requires { FillsFrame T.form frame.old bytes.now }
     ensures bytes { planar_bytes T.form (tables_of frame.new) ≡ bytes.now }
@@ -25,7 +25,7 @@ pub fn show_planar_bytes<T: Pixel>(frame: &mut Frame<T>, bytes: &[u8])
     show_chroma(&mut frame.v_plane, behind_u);
 }
 
-/// Shows the first bytes in a plane, where it is there, and gives those after them.
+/// Stores the first bytes in a plane, if it is present, and returns the bytes after them.
 fn show_chroma<'a, T: Pixel>(plane: &mut Option<Plane<T>>, bytes: &'a [u8]) -> &'a [u8]
     requires { plane_byte_count T.form.size (option_map size_of (option_map table_of plane.old))
         ≤ length bytes.now }
@@ -46,7 +46,7 @@ fn show_chroma<'a, T: Pixel>(plane: &mut Option<Plane<T>>, bytes: &'a [u8]) -> &
     }
 }
 
-/// Shows the first bytes in a plane, and gives those after them.
+/// Stores the first bytes in a plane, and returns the bytes after them.
 fn show_plane<'a, T: Pixel>(plane: &mut Plane<T>, bytes: &'a [u8]) -> &'a [u8]
     requires { plane_byte_count T.form.size (Some (size_of (table_of plane.old))) ≤ length bytes.now }
     ensures bytes { bytes.now ≡ byte_list T.form (table_of plane.new) ++ result.now }

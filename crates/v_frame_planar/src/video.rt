@@ -1,4 +1,4 @@
-//! Blank frames of any size.
+//! Allocates blank frames of any size.
 ghost use Rattle.std.specs.Prelude.{◌≡◌, ◌<◌, None, Err, IfOk, IsOkUnless, MatchOption, option_map};
 ghost use Rattle.std.specs.Option.{ForSome};
 ghost use Rattle.v_frame.specs.Prelude.{filled, Fits, FrameRequest, IsBlank, ratio_of, refusal_of, tables_of};
@@ -11,19 +11,23 @@ use v_frame::frame::{Frame, FrameBuilder, FrameError};
 use v_frame::pixel::Pixel;
 use v_frame::plane::{Plane, PlaneGeometry};
 
-/// Returns a frame of this luma size in pixels, zero in every pixel and in the border too, whether the size divides by the
-/// ratios of the format or not: chroma has as many columns and rows as it takes to cover luma. So video files have it.
+/// Allocates a frame of `width` by `height` luma pixels, with all pixels zero, including the padding.
 ///
-/// The luma border has `padding` pixels on all four sides, or so many more that it divides. Where
-/// [`FrameBuilder::build`](v_frame::frame::FrameBuilder::build) takes the size and these paddings, it builds the same frame.
+/// The size need not be a multiple of the chroma subsampling ratio: the sizes of the chroma planes are rounded up, as in video
+/// files. The luma plane has at least `padding` pixels of padding on each side, rounded up to a multiple of that ratio. If
+/// [`FrameBuilder::build`](v_frame::frame::FrameBuilder::build) accepts the size and these paddings, it builds an equal frame.
 ///
 /// # Errors
 ///
-/// The first of these that holds: [`FrameError::UnsupportedBitDepth`] where the depth is below 8 or above 16;
-/// [`FrameError::DataTypeMismatch`] where `u8` pixels are asked for another depth than 8, or `u16` pixels for 8;
-/// [`FrameError::UnsupportedResolution`] where the width or the height is zero, or where a row or the buffer of luma is too
-/// large; [`FrameError::OutOfMemory`] where a request for memory was refused. The first three are found before any such
-/// request.
+/// The first of these that applies:
+///
+/// - [`FrameError::UnsupportedBitDepth`] if `bit_depth` is below 8 or above 16.
+/// - [`FrameError::DataTypeMismatch`] if `T` is `u8` and `bit_depth` is not 8, or if `T` is `u16` and `bit_depth` is 8.
+/// - [`FrameError::UnsupportedResolution`] if the width or the height is zero, or if the luma plane is too large for the
+///   address space.
+/// - [`FrameError::OutOfMemory`] if a memory allocation fails.
+///
+/// The first three are detected before any memory is allocated.
 pub fn video_frame<T: Pixel>(
     alloc: Global,
     width: usize,
@@ -50,7 +54,7 @@ pub fn video_frame<T: Pixel>(
     }
 }
 
-/// Such a frame with its luma plane alone.
+/// Allocates a blank frame that has only its luma plane.
 fn luma_frame<T: Pixel>(
     alloc: Global,
     width: usize,
@@ -66,7 +70,7 @@ fn luma_frame<T: Pixel>(
         IfOk result (HasBlankLuma T.ZERO request) }
 {
     let (columns, rows) = subsample_ratio_or_one(subsampling);
-    // A padding that is too large to be counted stays too large, and is refused with the row or the buffer.
+    // If the padding overflows, it saturates, and is rejected when the row or the buffer is found to be too large.
     let across = padding.div_ceil(columns).saturating_mul(columns);
     let down = padding.div_ceil(rows).saturating_mul(rows);
     FrameBuilder::new(width, height, ChromaSubsampling::Monochrome, bit_depth)
@@ -77,7 +81,7 @@ fn luma_frame<T: Pixel>(
         .build(alloc)
 }
 
-/// Returns the frame of this luma, with blank chroma planes where the format has them.
+/// Returns the frame with this luma plane, and with blank chroma planes if the format has chroma.
 fn with_chroma<T: Pixel>(
     alloc: Global,
     luma: Frame<T>,
@@ -98,8 +102,8 @@ fn with_chroma<T: Pixel>(
     })
 }
 
-/// Returns the width and the height in pixels of each chroma plane beside luma of this size: as many columns and rows as it takes
-/// to cover luma. `None` where the format has no chroma.
+/// Returns the width and the height in pixels of each chroma plane of a frame of `width` by `height` luma pixels, or `None` if
+/// the format has no chroma. Both are rounded up, so that chroma covers luma.
 pub fn chroma_size(
     subsampling: ChromaSubsampling,
     width: usize,
@@ -112,8 +116,8 @@ pub fn chroma_size(
     Some((width.div_ceil(columns), height.div_ceil(rows)))
 }
 
-/// Returns how many luma columns and luma rows there are for one chroma column and one chroma row: 1 and 1 where the format
-/// has no chroma.
+/// Returns the number of luma columns for each chroma column, and the number of luma rows for each chroma row. Returns `(1, 1)`
+/// if the format has no chroma.
 pub fn subsample_ratio_or_one(subsampling: ChromaSubsampling) -> (usize, usize)
     ensures value { result ≡ ratio_or_one subsampling }
     ensures positive { (0 < result.0) × (0 < result.1) }
@@ -124,7 +128,7 @@ pub fn subsample_ratio_or_one(subsampling: ChromaSubsampling) -> (usize, usize)
     }
 }
 
-/// Returns the geometry of the chroma planes beside a luma plane, where the format has them.
+/// Returns the geometry of the chroma planes for a luma plane, or `None` if the format has no chroma.
 fn chroma_geometry(luma: PlaneGeometry, subsampling: ChromaSubsampling) -> Option<PlaneGeometry>
     requires { Fits luma }
     ensures value { result ≡ option_map (covering_geometry luma) (ratio_of subsampling) }
@@ -145,7 +149,7 @@ fn chroma_geometry(luma: PlaneGeometry, subsampling: ChromaSubsampling) -> Optio
     )
 }
 
-/// Two planes of zeros, where there are any.
+/// Allocates two planes of zeros, or none if there is no geometry.
 fn chroma_planes<T: Pixel>(
     alloc: Global,
     geometry: Option<PlaneGeometry>,

@@ -1,4 +1,4 @@
-//! Frames as their planar bytes.
+//! Writes frames as their planar bytes.
 ghost use Rattle.std.specs.Prelude.{◌≡◌, IfErr, MatchResult, OnOk};
 ghost use Rattle.std.specs.Io.KnownBytes.{Appends};
 ghost use Rattle.v_frame.specs.Prelude.{tables_of};
@@ -11,16 +11,18 @@ use std::io;
 use v_frame::frame::Frame;
 use v_frame::pixel::Pixel;
 
-/// How many bytes are encoded and offered at once.
+/// The number of bytes that are encoded and written at once.
 const BLOCK: usize = 16384;
 
-/// Writes the planar bytes of a frame. It takes no memory.
+/// Writes the planar bytes of `frame`. No memory is allocated.
 ///
 /// # Errors
 ///
-/// [`PlanarError::Write`] where a write failed, an interrupted one too, which is not tried again;
-/// [`Counted::last_failure`] says why. [`PlanarError::WriteZero`] where a write took none of the bytes that it was offered. After these a beginning of the bytes
-/// was written.
+/// - [`PlanarError::Write`] if a write fails. An interrupted write counts as failed and is not retried.
+///   [`Counted::last_failure`] returns the cause.
+/// - [`PlanarError::WriteZero`] if a write accepts none of the bytes.
+///
+/// Part of the frame may have been written then.
 pub fn write_frame<T: Pixel, W: io::Write>(
     writer: &mut Counted<W>,
     frame: &Frame<T>,

@@ -1,4 +1,4 @@
--- The words that callers' clauses cite, re-exported from one place.
+-- The definitions that the contracts of callers cite, re-exported from one place.
 pub use Rattle.v_frame_png.specs.CoderFits.{compression_of}
 pub use Rattle.v_frame_bytes.specs.Crc.{crc32, crc_rest, crc_step, ones}
 pub use Rattle.v_frame_png.specs.Decoding.{Form, Picture, decoded}

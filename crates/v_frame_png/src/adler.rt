@@ -5,7 +5,7 @@ ghost use Rattle.v_frame_png.specs.Adler.{adler_word, reduced, sums_from};
 /// The largest prime below 65,536.
 const MODULUS: u32 = 65521;
 
-/// After how many bytes at most the sums are reduced: then they are below 2^32.
+/// The largest number of bytes after which the sums must be reduced to stay below 2^32.
 const REACH: usize = 5552;
 
 /// The two sums of Adler-32, each below the modulus.
@@ -17,7 +17,7 @@ pub(crate) struct Adler32 {
 }
 
 impl Adler32 {
-    /// Returns the sums over no byte.
+    /// Returns the sums of no bytes.
     pub(crate) fn new() -> Self
         ensures first { result.first ≡ 1 }
         ensures second { result.second ≡ 0 }
@@ -28,7 +28,7 @@ impl Adler32 {
         }
     }
 
-    /// Adds bytes.
+    /// Adds `bytes` to the sums.
     pub(crate) fn add(&mut self, bytes: &[u8])
         ensures { (self.new.first, self.new.second)
             ≡ reduced (sums_from (self.old.first, self.old.second) bytes.now) }
@@ -42,7 +42,7 @@ impl Adler32 {
         self.add_few(ahead);
     }
 
-    /// Adds so few bytes that the sums are reduced once.
+    /// Adds at most [`REACH`] bytes, and reduces the sums once.
     fn add_few(&mut self, bytes: &[u8])
         requires { length bytes.now ≤ 5552 }
         ensures { (self.new.first, self.new.second)

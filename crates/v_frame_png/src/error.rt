@@ -1,51 +1,51 @@
-//! Why a picture was not written.
+//! Errors of writing a picture.
 
 use std::alloc::AllocError;
 use std::io;
 use thiserror::Error;
 use v_frame_bytes::SendError;
 
-/// Why a call of [`PngWriter`](crate::PngWriter) gave up.
+/// Why a call of [`PngWriter`](crate::PngWriter) failed.
 #[derive(Debug, Drop, Error)]
 pub enum PngError {
-    /// The width or the height is 0 or above 2^31 - 1.
+    /// The width or the height is 0 or above 2^31 - 1, which PNG does not allow.
     #[error("no PNG of {width} by {height} pixels")]
     Size {
-        /// The width that was asked for.
+        /// The requested width in pixels.
         width: u32,
-        /// The height that was asked for.
+        /// The requested height in pixels.
         height: u32,
     },
-    /// Samples of 16 bits were given for a picture of 8 bits a sample.
+    /// Samples of 16 bits were given for a picture with 8 bits per sample.
     #[error("the picture has 8 bits a sample")]
     BitDepth,
-    /// The row has not the bytes of a row of the picture.
+    /// The row does not have the number of bytes that the picture requires.
     #[error("a row has {expected} bytes, and not {found}")]
     RowLength {
-        /// How many bytes a row has.
+        /// The number of bytes of a row of the picture.
         expected: usize,
-        /// How many bytes were given.
+        /// The number of bytes of the row that was given.
         found: usize,
     },
-    /// The picture has not so many rows left.
+    /// The picture has fewer rows left than were given.
     #[error("the picture has not so many rows left")]
     NoRowLeft,
-    /// The picture has not all its rows.
+    /// The picture does not have all its rows yet.
     #[error("{count} rows are missing")]
     RowsMissing {
-        /// How many rows are missing.
+        /// The number of rows that are missing.
         count: u32,
     },
-    /// The picture was finished, or a write failed before.
+    /// The picture was finished, or an earlier write failed.
     #[error("the picture is closed")]
     Closed,
     /// A write failed.
     #[error("write failed: {0}")]
     Write(#[source] io::Error),
-    /// A write took none of the bytes that it was offered.
+    /// A write accepted none of the bytes.
     #[error("write took nothing")]
     WriteZero,
-    /// A request for memory was refused.
+    /// A memory allocation failed.
     #[error("out of memory")]
     OutOfMemory,
 }

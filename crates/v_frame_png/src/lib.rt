@@ -1,16 +1,16 @@
-//! Pictures written as PNG, row by row, to any writer.
+//! Writes pictures as PNG files, row by row, to any writer.
 //!
-//! [`PngWriter`] writes gray or RGB of 8 or 16 bits a sample, a row at a time or all rows of a plane. [`write_png`] writes a
-//! whole picture. By [`Compression`] the data is stored, so a file is as large as the picture, or compressed.
+//! [`PngWriter`] writes grayscale or RGB with 8 or 16 bits per sample, one row at a time or all rows of a plane. [`write_png`]
+//! writes a whole picture. [`Compression`] selects whether the image data is stored or compressed.
 //!
-//! What is written follows the PNG specification (third edition), the zlib format (RFC 1950) and the deflate format
-//! (RFC 1951). The contracts say that a reader which follows these finds just the header and the rows that were given:
-//! `Rattle.v_frame_png.specs.Decoding` is such a reader, of blocks that are stored or of the fixed Huffman codes, and of all
-//! five filters.
+//! The output follows the PNG specification (third edition), the zlib format (RFC 1950) and the deflate format (RFC 1951). The
+//! contracts state that a reader which follows these formats finds exactly the header and the rows that were given.
+//! `Rattle.v_frame_png.specs.Decoding` defines that reader, which accepts stored blocks, blocks with the fixed Huffman codes,
+//! and all five filters.
 //!
 //! [`crc32`] is the CRC-32 of zlib, gzip and PNG.
 //!
-//! Our own. `Rattle.v_frame_png.specs.Prelude` has the words for clauses.
+//! `Rattle.v_frame_png.specs.Prelude` re-exports the definitions that contracts cite.
 #![tactic(auto)]
 
 mod adler;

@@ -1,4 +1,4 @@
--- Pixels of one byte that are by turns in bytes: lanes of two bytes, and pieces of a list of bytes.
+-- Interleaved pixels of one byte: lanes of two bytes, and parts of a list of bytes.
 use Rattle.std.proofs.Common.{ℕ, zero, suc, ◌≡◌, ◌+◌, ◌-◌, ◌*◌, ◌/◌, ◌%◌, ◌^◌, ◌<◌, ◌≤◌, List, [], ◌∷◌, ◌++◌, length, take, drop}
 use Rattle.std.proofs.Common.{bit_and, refl, sym, ◌∙◌, ap, arith, map, length-take-le}
 use Rattle.std.specs.Simd.Lanes.{Each1, number_l, digits_l}
@@ -9,7 +9,7 @@ use Rattle.v_frame_semi_planar.specs.Interleaved.{interleaved}
 use Rattle.v_frame_semi_planar.specs.SemiPlanar.{shown_pixels}
 use Rattle.v_frame_semi_planar.proofs.Stored.{shown-append, shown-take, shown-parts, length-shown}
 
--- the low bytes of lanes of two bytes, and the high ones, are by turns the bytes
+-- The low bytes and the high bytes of lanes of two bytes, interleaved, are the bytes.
 pub bytes_by_turns : (n : ℕ) (bytes : List ℕ) → 2 * n ≤ length bytes → Each1 (λ byte. byte < 256) bytes
     → let lanes = digits_l 65536 n (number_l 256 (take (2 * n) bytes)) in
     interleaved (map (λ lane. bit_and lane 255) lanes) (map (λ lane. lane / 256) lanes) ≡ take (2 * n) bytes
@@ -25,7 +25,7 @@ bytes_by_turns (suc n) (low ∷ high ∷ bytes) long small =
 bytes_by_turns n bytes long small = absurd (omega (arith, long))
 
 module _ {T : Type 0} (form : PixelForm T) where
-  -- the pixel of a group of bytes, and of one byte
+  -- The pixel of a group of bytes, and of one byte.
   abbrev pixel_of_group : List ℕ → T
   pixel_of_group group = form.pixel_of (value_of_bytes group / 2 ^ 0)
 
@@ -61,22 +61,22 @@ module _ {T : Type 0} (form : PixelForm T) where
   groups_come_back same (x ∷ xs) = rw (of_one (form.value x), same x, groups_come_back same xs) refl
 
 module _ {T : Type 0} (form : PixelForm T) (byte : form.size ≡ 1) where
-  -- the pixels of bytes that are by turns are by turns
+  -- The pixels of interleaved bytes are interleaved.
   pub pixels_by_turns_of_bytes : (us vs : List ℕ) → length vs ≡ length us
       → interleaved (pixels_of_bytes form (length us) us) (pixels_of_bytes form (length us) vs)
       ≡ shown_pixels form 0 (2 * length us) (interleaved us vs)
   pixels_by_turns_of_bytes us vs same = rw byte (groups_by_turns form us vs same)
 
-  -- pixels of one byte each
+  -- Pixels of one byte each.
   pub pixels_of_each : (bytes : List ℕ) → map form.pixel_of bytes ≡ pixels_of_bytes form (length bytes) bytes
   pixels_of_each bytes = rw byte (groups_of_bytes form bytes)
 
-  -- the pixels of values are those that have them
+  -- The pixels of values are the pixels that have them.
   pub values_come_back : ((p : T) → form.pixel_of (form.value p) ≡ p) → (xs : List T)
       → shown_pixels form 0 (length xs) (map form.value xs) ≡ xs
   values_come_back same xs = rw byte (groups_come_back form same xs)
 
-  -- pixels from one index on are those of the bytes from there on
+  -- The pixels from one index on are those of the bytes from there on.
   pub shown_piece : (unused at n count : ℕ) (bytes : List ℕ) → at + n ≤ count
       → take n (drop at (shown_pixels form unused count bytes)) ≡ shown_pixels form unused n (take n (drop at bytes))
   shown_piece unused at n count bytes room =
@@ -94,7 +94,7 @@ module _ {T : Type 0} (form : PixelForm T) (byte : form.size ≡ 1) where
         from,
       ) (sym (shown-take form unused n n (drop at bytes) past))
 
--- pairs of the first bytes that show pixels of one byte, and what the others show
+-- Pairs of the first bytes that encode pixels of one byte, and the pixels of the other bytes.
 pub parts_shown : {T : Type 0} (form : PixelForm T) (unused whole rest : ℕ) (bytes : List ℕ)
     → (0 < whole → (unused ≡ 0) × (form.size ≡ 1))
     → shown_pixels form 0 (2 * whole) (take (2 * whole) bytes) ++ shown_pixels form unused (2 * rest) (drop (2 * whole) bytes)

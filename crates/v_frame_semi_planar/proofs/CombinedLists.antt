@@ -1,4 +1,5 @@
--- Two lists that are combined item by item: how many items there are, and which. And the front of a buffer.
+-- Two lists that are combined item by item: the number of items, and the items. And the front of a
+-- buffer.
 use Rattle.std.proofs.Common.{ℕ, zero, suc, ◌≡◌, ◌+◌, ◌≤◌, List, [], ◌∷◌, ◌++◌, length, take, Some, slice_get, None}
 use Rattle.std.proofs.Common.{refl, ◌∙◌, ap, arith, length-take-le}
 use Rattle.std.proofs.Math.Nat.{mul-div_cancel_left}
@@ -29,7 +30,8 @@ module _ {X : Type 0} (make : X → X → X) where
       cc
   slice_get-combined (a ∷ xs) (b ∷ ys) (suc k) x y is beside = slice_get-combined xs ys k x y is beside
 
--- the front of a buffer of which a part was filled anew, and the first of that part
+-- If a part of a buffer was filled, the items up to the filled ones are those in front of it and
+-- those at its front.
 pub taken_from_part : (at long n : ℕ) (old part : List ℕ) → at ≤ length old → n ≤ length part
     → take (at + n) (put_mid at long old part) ≡ take at old ++ take n part
 taken_from_part at long n old part within fits =
@@ -37,7 +39,7 @@ taken_from_part at long n old part within fits =
     rw (length-take-le at old within, take-append-le n part behind fits) at
     (take-append-add (take at old) (part ++ behind) n)
 
--- rows of one width have so many pixels each
+-- The number of pixels in rows of one width.
 pub length-row_major : {T : Type 0} (width : ℕ) (rows : Table T) → All (λ row. length row ≡ width) rows
     → length (row_major rows) ≡ length rows * width
 length-row_major width [] wide = omega arith
@@ -45,6 +47,6 @@ length-row_major width (row ∷ rows) wide =
     let long = All-head (λ r. length r ≡ width) row rows wide in
     simp length-append (omega (arith, long, length-row_major width rows (All-tail (λ r. length r ≡ width) row rows wide)))
 
--- what is so many times a number, divided by it
+-- A multiple of a number, divided by that number.
 pub quotient_is : (size count n : ℕ) → 0 < size → n ≡ size * count → n / size ≡ count
 quotient_is size count n some is = ap (λ k. k / size) is ∙ mul-div_cancel_left count some

@@ -1,4 +1,5 @@
--- Samples that are stored and shown again are as they were, where they have no more bits than the layout.
+-- Samples that are stored and decoded again are unchanged, if they have no more bits than the
+-- layout.
 use Rattle.std.proofs.Common.{All, ℕ, ◌≡◌, ◌+◌, ◌*◌, ◌^◌, ◌<◌, List, [], ◌∷◌, length, refl}
 use Rattle.std.proofs.lemmas.List.{take_at, drop_at}
 use Rattle.std.proofs.lemmas.List.Elements.{All-head, All-tail}
@@ -11,7 +12,7 @@ use Rattle.v_frame_semi_planar.specs.declared.format.SemiPlanarFormat.{SemiPlana
 use Rattle.v_frame_semi_planar.specs.declared.format.SemiPlanarFormat.TheVariants.{Nv12, Nv21, Nv16, Nv24}
 use Rattle.v_frame_semi_planar.specs.declared.format.SemiPlanarFormat.TheVariants.{P010, P012, P016}
 
--- the bits of a sample, with those that aren't used, are those of its bytes
+-- The bits of a sample and its unused bits are the bits of its bytes.
 pub all_bits : (format : SemiPlanarFormat) → 2 ^ (depth_of format + unused_bits format) ≡ 256 ^ sample_size_of format
 all_bits Nv12 = refl
 all_bits Nv21 = refl

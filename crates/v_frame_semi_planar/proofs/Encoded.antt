@@ -1,4 +1,4 @@
--- Samples of two chroma rows that were encoded in front of a block.
+-- Samples of two chroma rows that were encoded to the front of a block.
 use Rattle.std.proofs.Common.{ℕ, zero, suc, ◌≡◌, ◌<◌, List, [], ◌∷◌, ◌++◌, length, take, drop, refl, ◌∙◌, ap}
 use Rattle.std.proofs.Common.{arith, length-append, append_assoc}
 use Rattle.std.proofs.lemmas.List.{take_at}
@@ -11,7 +11,7 @@ use Rattle.v_frame_semi_planar.specs.declared.pending.Pending.{Pending}
 use Rattle.v_frame_semi_planar.proofs.Stored.{interleaved-cut, stored-append}
 
 module _ {X : Type 0} where
-  -- where one of two lists has no item, nothing is by turns
+  -- If one of two lists is empty, interleaving them gives nothing.
   pub no_first_turn : (us vs : List X) → length us ≡ 0 → interleaved us vs ≡ []
   no_first_turn [] vs none = refl
   no_first_turn (u ∷ us) vs none = absurd (omega arith)
@@ -29,7 +29,7 @@ module _ {X : Type 0} where
   some_turns (suc n) (u ∷ us) (v ∷ vs) some first second = omega arith
 
 module _ {T : Type 0} (form : PixelForm T) (unused : ℕ) (old new : Pending T) (n end : ℕ) (part behind : List ℕ) where
-  -- so many of each row
+  -- Some samples of each row were encoded.
   pub chroma_encoded : old.luma.now ≡ [] → old.luma_rows ≡ [] → new.luma.now ≡ [] → new.luma_rows ≡ []
       → new.first_rows ≡ old.first_rows → new.second_rows ≡ old.second_rows → new.first.now ≡ drop n old.first.now
       → new.second.now ≡ drop n old.second.now → 0 < n → 0 < length old.first.now → 0 < length old.second.now

@@ -1,4 +1,5 @@
--- A list in which the items of two others are by turns is those two interleaved, and of two tables each row is.
+-- A list with the items of two others, alternately, is those two interleaved. For two tables, each
+-- row is.
 use Rattle.std.proofs.Common.{ℕ, suc, ◌≡◌, ◌+◌, ◌*◌, ◌<◌, ◌≤◌, List, [], ◌∷◌, length, Some, slice_get, slice_set}
 use Rattle.std.proofs.Common.{refl, sym, ◌∙◌, ap, arith, mul-suc, take, drop, ◌++◌, length-take-le}
 use Rattle.std.proofs.Common.{All, length-append}
@@ -13,7 +14,7 @@ use Rattle.v_frame_semi_planar.specs.Interleaved.{interleaved}
 use Rattle.v_frame_semi_planar.proofs.CombinedLists.{length-combined, slice_get-combined}
 use borrow.Author.Count.{below_more}
 
--- the items of two lists in front of an index are in a third by turns
+-- The items of two lists in front of an index are in a third list, alternately.
 pub record ByTurnsBelow {X : Type 0} (us vs row : List X) (i : ℕ) : Type 0 where
   pub first : (k : ℕ) → k < i → slice_get row (2 * k) ≡ slice_get us k
   pub second : (k : ℕ) → k < i → slice_get row (2 * k + 1) ≡ slice_get vs k
@@ -34,13 +35,13 @@ module _ {X : Type 0} where
       cc
   by_turns us vs row long equal turns = absurd (omega arith)
 
--- each row of a table in front of one is the rows of that number in two others by turns
+-- Each row of a table above row `y` is the corresponding rows of two others, interleaved.
 pub record ApartBelow {T : Type 0} (source us vs : Table T) (y : ℕ) : Type 0 where
   pub at : (k : ℕ) → k < y → (u v : List T) × (slice_get us k ≡ Some u) × (slice_get vs k ≡ Some v)
       × (slice_get source k ≡ Some (interleaved u v))
 
 module _ {T : Type 0} (source us vs : Table T) (y : ℕ) where
-  -- one more row
+  -- One more row.
   pub one_more_apart : (u v : List T) → ApartBelow source us vs y → y < length us → y < length vs
       → slice_get source y ≡ Some (interleaved u v) → ApartBelow source (slice_set us y u) (slice_set vs y v) (y + 1)
   one_more_apart u v so_far within second_within is = record {
@@ -52,7 +53,7 @@ module _ {T : Type 0} (source us vs : Table T) (y : ℕ) where
         (u, v, set_is_read us y u within, set_is_read vs y v second_within, is);
   }
 
-  -- after the last one the table is the two by turns
+  -- After the last row, the table is the two others, interleaved.
   pub all_apart : length us ≡ length source → length vs ≡ length source → length source ≤ y
       → ApartBelow source us vs y → source ≡ combined interleaved us vs
   all_apart as_many second_as_many end apart =
@@ -67,7 +68,7 @@ module _ {T : Type 0} where
   length-interleaved (u ∷ us) (v ∷ vs) equal = omega (arith, length-interleaved us vs (omega arith))
   length-interleaved us vs equal = absurd (omega arith)
 
-  -- two tables of one size have as many pixels by turns as they have both
+  -- The interleaved table of two tables of one size has as many pixels as both together.
   pub pixels_by_turns : (width : ℕ) (us vs : Table T) → All (λ row. length row ≡ width) us
       → All (λ row. length row ≡ width) vs → length us ≡ length vs → length (row_major (combined interleaved us vs)) ≡
       length (row_major us) + length (row_major vs)
@@ -81,7 +82,7 @@ module _ {T : Type 0} where
   pixels_by_turns width us vs wide wide_second equal = absurd (omega arith)
 
 module _ {X : Type 0} where
-  -- lists by turns that are made of two parts
+  -- Interleaved lists that consist of two parts.
   pub interleaved-append : (ps qs us vs : List X) → length qs ≡ length ps → interleaved (ps ++ us) (qs ++ vs) ≡ interleaved ps qs
       ++ interleaved us vs
   interleaved-append [] [] us vs same = refl
@@ -89,11 +90,11 @@ module _ {X : Type 0} where
       ap (λ rest. p ∷ q ∷ rest) (interleaved-append ps qs us vs (omega (arith, same)))
   interleaved-append ps qs us vs same = absurd (omega (arith, same))
 
-  -- the first items of a list are by turns the first ones of two others
+  -- The first items of a list are those of two others, alternately.
   abbrev pub FirstApart : List X → List X → List X → ℕ → Type 0
   FirstApart items us vs n = take (2 * n) items ≡ interleaved (take n us) (take n vs)
 
-  -- one more block of so many of each
+  -- One more block of items from each.
   pub block_apart : (n k : ℕ) (items us vs p q : List X) → n * k + n ≤ length us → n * k + n ≤ length vs → length p ≡ n
       → length q ≡ n → take (2 * n) (drop (2 * (n * k)) items) ≡ interleaved p q → FirstApart items us vs (n * k)
       → FirstApart items (put_mid (n * k) n us p) (put_mid (n * k) n vs q) (n * (k + 1))

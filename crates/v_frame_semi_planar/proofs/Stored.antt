@@ -1,4 +1,4 @@
--- The pixels that bytes show, one by one, and pixels by turns that are stored run by run.
+-- The pixels that bytes encode, one by one, and interleaved pixels that are stored in several runs.
 use Rattle.std.proofs.Common.{ℕ, zero, suc, ◌≡◌, ◌+◌, ◌*◌, ◌/◌, ◌^◌, ◌<◌, List, [], ◌∷◌, ◌++◌, length, take, drop, Some}
 use Rattle.std.proofs.Common.{◌-◌, ◌≤◌, None, slice_get, refl, sym, ◌∙◌, ap, arith, length-append, length-take-le}
 use Rattle.std.proofs.Common.{length-take}
@@ -21,7 +21,7 @@ module _ {X : Type 0} where
   no_second [] = refl
   no_second (u ∷ us) = refl
 
-  -- two lists by turns, cut at one place
+  -- Two interleaved lists, divided at one position.
   pub interleaved-cut : (n : ℕ) (us vs : List X) → interleaved us vs ≡ interleaved (take n us) (take n vs) ++
       interleaved (drop n us) (drop n vs)
   interleaved-cut zero us vs = refl
@@ -29,7 +29,7 @@ module _ {X : Type 0} where
   interleaved-cut (suc n) (u ∷ us) [] = sym (no_second (drop n us))
   interleaved-cut (suc n) (u ∷ us) (v ∷ vs) = ap (λ rest. u ∷ v ∷ rest) (interleaved-cut n us vs)
 
-  -- and one item more of each
+  -- One more item of each list.
   pub interleaved-more : (i : ℕ) (us vs : List X) (u v : X) → slice_get us i ≡ Some u → slice_get vs i ≡ Some v
       → interleaved (take (i + 1) us) (take (i + 1) vs) ≡ interleaved (take i us) (take i vs) ++ u ∷ v ∷ []
   interleaved-more i [] vs u v is beside = absurd (let no : None ≡ Some u = is in cc)
@@ -56,7 +56,7 @@ module _ {T : Type 0} (form : PixelForm T) (unused : ℕ) where
   length-bytes [] = omega arith
   length-bytes (x ∷ xs) = simp (length-append, length-bytes_from) (omega (arith, length-bytes xs))
 
-  -- bytes as many as those of two lists of pixels
+  -- The number of bytes is that of two lists of pixels.
   pub length-parts : (bytes : List ℕ) (xs ys : List T) → length bytes ≡ length (stored_bytes form unused (xs ++ ys))
       → length bytes ≡ form.size * length xs + form.size * length ys
   length-parts bytes xs ys long =
@@ -67,7 +67,7 @@ module _ {T : Type 0} (form : PixelForm T) (unused : ℕ) where
       length-map (cut_rows form.size count bytes) (λ group. form.pixel_of (value_of_bytes group / 2 ^ unused))
       ∙ length-cut_rows form.size count bytes
 
-  -- the pixel of a number
+  -- The pixel with an index.
   pub shown_at : (count : ℕ) (bytes : List ℕ) (k : ℕ) → k < count → slice_get (shown_pixels form unused count bytes) k
       ≡ Some (form.pixel_of (value_of_bytes (take form.size (drop (form.size * k) bytes)) / 2 ^ unused))
   shown_at count bytes k h =
@@ -83,7 +83,7 @@ module _ {T : Type 0} (form : PixelForm T) (unused : ℕ) where
       let from : start ≡ form.size * k = at ∙ ap (λ n. n * k) same in
       shown_at count bytes k h ∙ sym (ap Some (is ∙ rw (long, from) refl))
 
-  -- a pixel of each row is encoded after those before
+  -- One more pixel of each row is encoded after those before.
   pub one_pair_more : (i : ℕ) (us vs : List T) (u v : T) (bytes part other : List ℕ) (start size next : ℕ)
       → take start bytes ≡ stored_bytes form unused (interleaved (take i us) (take i vs)) → start ≤ length bytes
       → slice_get us i ≡ Some u → slice_get vs i ≡ Some v
@@ -109,7 +109,7 @@ module _ {T : Type 0} (form : PixelForm T) (unused : ℕ) where
       ∙ rw (front, before, interleaved-more i us vs u v is beside, stored-append) (rw (made, made_other)
       (simp (append_assoc, append-nil)))
 
--- bytes that are shown part by part: as many rows of pixels, each of a piece of the bytes
+-- Bytes that are decoded part by part: each row of pixels comes from one part of the bytes.
 module _ {T : Type 0} (form : PixelForm T) (unused : ℕ) where
   pub shown-append : (a b : ℕ) (bytes : List ℕ) → shown_pixels form unused (a + b) bytes
       ≡ shown_pixels form unused a bytes ++ shown_pixels form unused b (drop (form.size * a) bytes)
@@ -136,7 +136,7 @@ module _ {T : Type 0} (form : PixelForm T) (unused : ℕ) where
       (taken_inside bytes (form.size * k) form.size n inside)
       ∙ sym (shown_at form unused count bytes k low))
 
-  -- rows of so many pixels, each of a piece of the bytes
+  -- The rows of pixels, each from its part of the bytes.
   abbrev pub stored_rows : ℕ → ℕ → ℕ → List ℕ → Table T
   stored_rows count piece height bytes = map (shown_pixels form unused count) (cut_rows piece height bytes)
 
@@ -152,7 +152,7 @@ module _ {T : Type 0} (form : PixelForm T) (unused : ℕ) where
       slice_get-map (shown_pixels form unused count) (cut_rows piece height bytes) y _
       (slice_get-cut_rows piece height bytes y h)
 
-  -- are the pixels of all the bytes
+  -- Together they are the pixels of all bytes.
   pub row_major-stored_rows : (count piece height : ℕ) (bytes : List ℕ) → piece ≡ form.size * count
       → row_major (stored_rows count piece height bytes) ≡ shown_pixels form unused (height * count) bytes
   row_major-stored_rows count piece zero bytes is = let none : 0 * count ≡ 0 = omega arith in rw none refl
@@ -162,7 +162,7 @@ module _ {T : Type 0} (form : PixelForm T) (unused : ℕ) where
       (ap (λ rest. shown_pixels form unused count bytes ++ rest)
       (row_major-stored_rows count piece height (drop piece bytes) is))
 
-  -- the pixels of two parts of the bytes are those of both
+  -- The pixels of two parts of the bytes are the pixels of both together.
   pub shown-parts : (a b at : ℕ) (bytes : List ℕ) → at ≡ form.size * a
       → shown_pixels form unused a (take at bytes) ++ shown_pixels form unused b (drop at bytes)
       ≡ shown_pixels form unused (a + b) bytes

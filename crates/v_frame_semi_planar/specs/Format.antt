@@ -1,4 +1,4 @@
--- Semi-planar layouts: what each asks of a frame.
+-- Semi-planar layouts, and the frames that fit them.
 use Rattle.std.specs.Prelude.{ℕ, ◌≡◌, ◌-◌, ◌*◌, Bool, true, false, option_map}
 use Rattle.std.specs.Int.NonZero.{non_zero_u8_get}
 use Rattle.v_frame.specs.Prelude.{ChromaSubsampling, Yuv420, Yuv422, Yuv444, Frame, tables_of}
@@ -23,7 +23,7 @@ subsampling_of P010 = Yuv420
 subsampling_of P012 = Yuv420
 subsampling_of P016 = Yuv420
 
--- the bits of a sample
+-- The number of bits of a sample.
 abbrev pub depth_of : SemiPlanarFormat → ℕ
 depth_of Nv12 = 8
 depth_of Nv21 = 8
@@ -33,7 +33,7 @@ depth_of P010 = 10
 depth_of P012 = 12
 depth_of P016 = 16
 
--- the bytes that a sample takes
+-- The number of bytes of a sample.
 abbrev pub sample_size_of : SemiPlanarFormat → ℕ
 sample_size_of Nv12 = 1
 sample_size_of Nv21 = 1
@@ -43,11 +43,11 @@ sample_size_of P010 = 2
 sample_size_of P012 = 2
 sample_size_of P016 = 2
 
--- the low bits of its bytes that a sample doesn't use
+-- The number of low bits that a sample leaves unused in its bytes.
 abbrev pub unused_bits : SemiPlanarFormat → ℕ
 unused_bits format = 8 * sample_size_of format - depth_of format
 
--- whether the first of each pair of chroma pixels is V
+-- V is the first of each pair of chroma pixels.
 abbrev pub begins_with_v : SemiPlanarFormat → Bool
 begins_with_v Nv12 = false
 begins_with_v Nv21 = true
@@ -58,14 +58,14 @@ begins_with_v P012 = false
 begins_with_v P016 = false
 
 module _ {T : Type 0} (size : ℕ) (format : SemiPlanarFormat) (frame : Frame T) where
-  -- the pixels, of so many bytes, and their depth are those of a layout
+  -- The pixels have the size of the layout's samples, and the bit depth is that of the layout.
   abbrev pub HasDepth : Type 0
   HasDepth = (size ≡ sample_size_of format) × (non_zero_u8_get frame.bit_depth ≡ depth_of format)
 
   abbrev pub HasSubsampling : Type 0
   HasSubsampling = frame.subsampling ≡ subsampling_of format
 
-  -- both chroma planes are there, and have the size that covers luma
+  -- Both chroma planes are present, and have the size that covers luma.
   abbrev pub HasChromaSizes : Type 0
   HasChromaSizes =
       let tables = tables_of frame in
@@ -73,13 +73,13 @@ module _ {T : Type 0} (size : ℕ) (format : SemiPlanarFormat) (frame : Frame T)
       let chroma = chroma_sizes_of (subsampling_of format) luma.0 luma.1 in
       (option_map size_of tables.u ≡ chroma) × (option_map size_of tables.v ≡ chroma)
 
-  -- a frame is one for a layout
+  -- The frame fits the layout.
   pub record HasLayout : Type 0 where
     pub depth : HasDepth
     pub subsampling : HasSubsampling
     pub sizes : HasChromaSizes
 
-  -- the reason why it is none: the first that holds
+  -- The reason why the frame does not fit the layout. The first reason that applies is reported.
   abbrev pub RefusedFor : SemiPlanarError → Type 0
   RefusedFor BitDepth = ¬ HasDepth
   RefusedFor Subsampling = HasDepth × ¬ HasSubsampling

@@ -1,5 +1,5 @@
--- What is still to be written of a frame: the rest of a row that was begun, of luma or of both
--- chroma planes, and rows that were not.
+-- The samples of a frame that are still to be written: the rest of the current row of luma or of
+-- both chroma planes, and the rows after it.
 use Rattle.std.specs.Prelude.{ℕ, ◌≡◌, ◌+◌, ◌<◌, ◌≤◌, List, ◌++◌, length, take}
 use Rattle.v_frame.specs.Prelude.{PixelForm, row_major}
 use Rattle.v_frame_ops.specs.Change.{combined}
@@ -16,11 +16,11 @@ module _ {T : Type 0} where
   abbrev pub pixels_pending : Pending T → List T
   pixels_pending p = p.luma.now ++ (row_major p.luma_rows ++ chroma_pending p)
 
-  -- pixels and rows, of which each step takes at least one
+  -- The number of pixels and rows that are left. Each step lowers it.
   abbrev pub steps_pending : Pending T → ℕ
   steps_pending p = length (pixels_pending p) + length p.luma_rows + length p.first_rows
 
-  -- the first of these pixels were encoded in front of a block, or a row was begun
+  -- The first pixels that are left were encoded to the front of a block, or a row was begun.
   pub record Encodes (form : PixelForm T) (unused : ℕ) (old new : Pending T) (block : List ℕ)
       (count : ℕ) : Type 0 where
     pub bound : count ≤ length block

@@ -1,4 +1,4 @@
--- The words that callers' clauses cite, re-exported from one place.
+-- The definitions that the contracts of callers cite, re-exported from one place.
 pub use Rattle.v_frame_semi_planar.specs.Interleaved.{interleaved}
 pub use Rattle.v_frame_semi_planar.specs.Format.{subsampling_of, depth_of, sample_size_of}
 pub use Rattle.v_frame_semi_planar.specs.Format.{unused_bits, begins_with_v}

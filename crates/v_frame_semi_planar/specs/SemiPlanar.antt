@@ -1,5 +1,5 @@
--- The bytes of a frame in a semi-planar layout, the pixels that bytes show, and what a call that
--- reads or writes them leaves.
+-- The bytes of a frame in a semi-planar layout, the pixels that bytes encode, and the effect of
+-- reading or writing a frame.
 use Rattle.std.specs.Prelude.{ℕ, ◌≡◌, ◌*◌, ◌/◌, ◌^◌, ◌++◌, Bool, true, false, if◌then◌else◌, List}
 use Rattle.std.specs.Prelude.{[], length}
 use Rattle.std.specs.Prelude.{map, flat_map, Option, Some, None}
@@ -21,7 +21,7 @@ use Rattle.v_frame_semi_planar.specs.declared.error.SemiPlanarError.TheVariants.
 use Rattle.v_frame_semi_planar.specs.declared.error.SemiPlanarError.TheVariants.{Planar}
 
 module _ {T : Type 0} where
-  -- the table in which the pixels of U and V are by turns, or those of V and U
+  -- The table with interleaved chroma pixels, U or V first, as the layout has them.
   abbrev pub chroma_table : SemiPlanarFormat → Table T → Table T → Table T
   chroma_table format u v =
       if begins_with_v format then combined interleaved v u else combined interleaved u v
@@ -31,29 +31,29 @@ module _ {T : Type 0} where
   chroma_pixels format (Some u) None = []
   chroma_pixels format (Some u) (Some v) = row_major (chroma_table format u v)
 
-  -- the pixels in the order of their bytes: luma, then chroma by turns
+  -- The pixels in the order of their bytes: luma, followed by interleaved chroma.
   abbrev pub semi_planar_pixels : SemiPlanarFormat → Tables T → List T
   semi_planar_pixels format tables =
       row_major tables.y ++ chroma_pixels format tables.u tables.v
 
 module _ {T : Type 0} (form : PixelForm T) where
-  -- the bytes of samples above so many bits that aren't used, each with its low byte first
+  -- The bytes of samples, which leave `unused` low bits unused, in little-endian order.
   abbrev pub stored_bytes : ℕ → List T → List ℕ
   stored_bytes unused pixels =
       flat_map (λ pixel. bytes_of form.size (form.value pixel * 2 ^ unused)) pixels
 
-  -- the bytes of a frame in a layout
+  -- The bytes of a frame in a layout.
   abbrev pub semi_planar_bytes : SemiPlanarFormat → Tables T → List ℕ
   semi_planar_bytes format tables =
       stored_bytes (unused_bits format) (semi_planar_pixels format tables)
 
-  -- a frame is one for a layout, and there are as many bytes as it has in it
+  -- The frame fits the layout, and the number of bytes is that of the frame.
   pub record FillsLayout (format : SemiPlanarFormat) (frame : Frame T) (bytes : List ℕ)
       : Type 0 where
     pub layout : HasLayout form.size format frame
     pub long : length bytes ≡ length (semi_planar_bytes format (tables_of frame))
 
-  -- the first pixels of bytes, without the bits that aren't used
+  -- The first `count` pixels that the bytes encode, without the unused bits.
   abbrev pub shown_pixels : ℕ → ℕ → List ℕ → List T
   shown_pixels unused count bytes =
       map (λ group. form.pixel_of (value_of_bytes group / 2 ^ unused))
@@ -61,7 +61,7 @@ module _ {T : Type 0} (form : PixelForm T) where
 
 module _ {T W : Type 0} (form : PixelForm T) (contents : W → Option (List ℕ)) (old new : Watched W)
     (format : SemiPlanarFormat) (frame : Frame T) where
-  -- the error may come where this frame is written, and what it leaves of the writer
+  -- The error may be reported while this frame is written, with this effect on the writer.
   abbrev pub MayFailWriting : SemiPlanarError → Type 0
   MayFailWriting (Planar error) =
       HasLayout form.size format frame
@@ -70,8 +70,8 @@ module _ {T W : Type 0} (form : PixelForm T) (contents : W → Option (List ℕ)
   MayFailWriting Subsampling = RefusedFor form.size format frame Subsampling × (new ≡ old)
   MayFailWriting ChromaSize = RefusedFor form.size format frame ChromaSize × (new ≡ old)
 
--- where a read or a write failed, the kind of its error is reported, and else the last failure is
--- as before
+-- If a read or a write failed, the kind of its error is recorded. Otherwise the last failure is
+-- unchanged.
 abbrev pub TellsFailure : Option ErrorKind → Option ErrorKind → SemiPlanarError → Type 0
 TellsFailure old new (Planar error) = TellsCause old new error
 TellsFailure old new BitDepth = new ≡ old
@@ -80,8 +80,7 @@ TellsFailure old new ChromaSize = new ≡ old
 
 module _ {T R : Type 0} (form : PixelForm T) (remaining : R → Option (List ℕ)) (old new : Watched R)
     (format : SemiPlanarFormat) where
-  -- the bytes of a frame that shows these tables were read, or the reader stood at its end before
-  -- the first one
+  -- The bytes of a frame with these tables were read, or the reader was at its end.
   abbrev pub ReadsLayout : Tables T → Bool → Type 0
   ReadsLayout tables true =
       (bytes : List ℕ) × Consumes (remaining old.inner) (remaining new.inner) bytes
@@ -91,7 +90,7 @@ module _ {T R : Type 0} (form : PixelForm T) (remaining : R → Option (List ℕ
   ReadsLayout tables false =
       Consumes (remaining old.inner) (remaining new.inner) [] × IsAtEnd (remaining new.inner)
 
-  -- the error may come where a frame is read into this one, and what it leaves of the reader
+  -- The error may be reported while a frame is read into this one, with this effect on the reader.
   abbrev pub MayFailReading : Frame T → SemiPlanarError → Type 0
   MayFailReading frame (Planar error) =
       HasLayout form.size format frame

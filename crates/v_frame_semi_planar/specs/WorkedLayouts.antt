@@ -1,4 +1,4 @@
--- Small cases worked out by hand. Each line computes: it is proved by `refl`.
+-- Small examples worked out by hand. Each is proved by computation (`refl`).
 use Rattle.std.specs.Prelude.{ℕ, ◌≡◌, Some, [], ◌∷◌, refl}
 use Rattle.v_frame.specs.Prelude.{Tables, one_byte, two_bytes}
 use Rattle.v_frame_semi_planar.specs.Interleaved.{interleaved}
@@ -10,7 +10,7 @@ use Rattle.v_frame_semi_planar.specs.declared.format.SemiPlanarFormat.TheVariant
 by_turns : interleaved {X = ℕ} (1 ∷ 2 ∷ 3 ∷ []) (7 ∷ 8 ∷ 9 ∷ []) ≡ 1 ∷ 7 ∷ 2 ∷ 8 ∷ 3 ∷ 9 ∷ []
 by_turns = refl
 
--- 3 by 2 pixels, with 2 by 1 pixels of chroma
+-- A picture of 3 by 2 luma pixels and 2 by 1 chroma pixels.
 abbrev picture : Tables ℕ
 picture = record {
   y = (1 ∷ 2 ∷ 3 ∷ []) ∷ (4 ∷ 5 ∷ 6 ∷ []) ∷ [];
@@ -26,7 +26,8 @@ v_first : semi_planar_bytes one_byte Nv21 picture
     ≡ 1 ∷ 2 ∷ 3 ∷ 4 ∷ 5 ∷ 6 ∷ 20 ∷ 10 ∷ 21 ∷ 11 ∷ []
 v_first = refl
 
--- 1 by 1 pixels of 10 bits: the words are 64 times the samples, low byte first
+-- A picture of 1 by 1 pixels with 10 bits: each 16-bit word is 64 times the sample, in
+-- little-endian order.
 abbrev one_pixel : Tables ℕ
 one_pixel = record {
   y = (1023 ∷ []) ∷ [];
@@ -43,6 +44,6 @@ unused_of_p012 = refl
 unused_of_p016 : unused_bits P016 ≡ 0
 unused_of_p016 = refl
 
--- low bits that aren't used are lost
+-- Unused low bits are discarded.
 shown : shown_pixels two_bytes 6 3 (255 ∷ 255 ∷ 64 ∷ 0 ∷ 63 ∷ 1 ∷ []) ≡ 1023 ∷ 1 ∷ 4 ∷ []
 shown = refl

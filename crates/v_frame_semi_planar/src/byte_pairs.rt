@@ -1,4 +1,4 @@
-//! Pixels of one byte by turns, sixteen pairs at a time. Of a loop over them the compiler makes a load for each byte.
+//! Interleaved pixels of one byte, sixteen pairs at a time. The compiler turns a plain loop into one load for each byte.
 ghost use Rattle.std.specs.Prelude.{◌≡◌, ◌*◌, ◌%◌, ◌<◌, ◌≤◌, length, map};
 ghost use Rattle.v_frame_semi_planar.specs.Interleaved.{interleaved};
 ghost use Rattle.v_frame_semi_planar.specs.SemiPlanar.{shown_pixels};
@@ -6,7 +6,7 @@ ghost use Rattle.v_frame_semi_planar.specs.SemiPlanar.{shown_pixels};
 use std::simd::{u8x32, u16x16};
 use v_frame::pixel::Pixel;
 
-/// Returns how many of so many pairs are taken in blocks of sixteen: none where a pixel has two bytes.
+/// Returns how many of `pairs` pairs are processed in blocks of sixteen. The number is 0 if a pixel has two bytes.
 #[inline(always)]
 pub(crate) fn pairs_in_blocks<T: Pixel>(pairs: usize) -> usize
     ensures within { result ≤ pairs }
@@ -16,7 +16,7 @@ pub(crate) fn pairs_in_blocks<T: Pixel>(pairs: usize) -> usize
     if T::BYTES == 1 { pairs - pairs % 16 } else { 0 }
 }
 
-/// Makes two rows of the pixels of one, by turns.
+/// Splits a row of interleaved pixels into two rows.
 pub(crate) fn deinterleave_blocks<T: Pixel>(row: &[T], first: &mut [T], second: &mut [T])
     requires byte { 0 < length first.old → T.BYTES ≡ 1 }
     requires whole { length first.old % 16 ≡ 0 }
@@ -32,7 +32,7 @@ pub(crate) fn deinterleave_blocks<T: Pixel>(row: &[T], first: &mut [T], second: 
     }
 }
 
-/// Writes the values of pixels that have one byte.
+/// Writes the values of pixels of one byte.
 #[inline(always)]
 fn write_values<T: Pixel>(bytes: &mut [u8], row: &[T])
     requires byte { T.BYTES ≡ 1 }
@@ -44,7 +44,7 @@ fn write_values<T: Pixel>(bytes: &mut [u8], row: &[T])
     }
 }
 
-/// Makes two rows of pixels of bytes, by turns.
+/// Decodes the bytes of interleaved pixels into two rows.
 pub(crate) fn decode_blocks<T: Pixel>(first: &mut [T], second: &mut [T], bytes: &[u8])
     requires byte { 0 < length first.old → T.BYTES ≡ 1 }
     requires whole { length first.old % 16 ≡ 0 }
@@ -62,7 +62,7 @@ pub(crate) fn decode_blocks<T: Pixel>(first: &mut [T], second: &mut [T], bytes: 
     }
 }
 
-/// Makes sixteen pixels of each row. A lane holds a pair.
+/// Decodes sixteen pixels of each row. Each lane holds a pair.
 #[inline(always)]
 fn decode_block<T: Pixel>(first: &mut [T], second: &mut [T], bytes: &[u8])
     requires byte { T.BYTES ≡ 1 }
@@ -78,7 +78,7 @@ fn decode_block<T: Pixel>(first: &mut [T], second: &mut [T], bytes: &[u8])
     write_pixels(&high, second);
 }
 
-/// Writes the pixels of bytes. A copy of these bytes would test first whether the two overlap.
+/// Decodes pixels of one byte. A copy of the slice would first test whether source and target overlap.
 #[inline(always)]
 fn write_pixels<T: Pixel>(bytes: &[u8], row: &mut [T])
     requires byte { T.BYTES ≡ 1 }

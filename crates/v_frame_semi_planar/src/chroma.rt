@@ -1,4 +1,4 @@
-//! Two planes of chroma, by turns in one plane or each in its own. Borders stay.
+//! Interleaves two chroma planes, and splits an interleaved plane. Padding is unchanged.
 ghost use Rattle.std.specs.Prelude.{◌≡◌, ◌*◌};
 ghost use Rattle.v_frame.specs.Prelude.{KeepsBorder, table_of};
 ghost use Rattle.v_frame_ops.specs.Change.{combined};
@@ -8,8 +8,10 @@ use crate::rows;
 use v_frame::pixel::Pixel;
 use v_frame::plane::{Plane, PlaneRef, VisibleMut};
 
-/// Shows in `target` the pixels of two planes by turns, in each row one of `first`, one of `second`, and so on, as semi-planar
-/// layouts have them. The target is twice as wide as those two, which have the same size.
+/// Interleaves the pixels of two planes: in each row of `target`, even columns get the pixels of `first` and odd columns those
+/// of `second`. The padding of `target` is unchanged.
+///
+/// `first` and `second` have the same size. `target` is twice as wide and equally high.
 pub fn interleave<T: Copy>(first: &PlaneRef<'_, T>, second: &PlaneRef<'_, T>, target: &mut Plane<T>)
     requires wide { target.old.geometry.width ≡ 2 * first.now.geometry.width }
     requires high { target.old.geometry.height ≡ first.now.geometry.height }
@@ -29,8 +31,10 @@ pub fn interleave<T: Copy>(first: &PlaneRef<'_, T>, second: &PlaneRef<'_, T>, ta
     rows::interleave(&first, &second, entries, width, height, stride);
 }
 
-/// Shows the pixels of `source` in two planes by turns, those of even columns in `first` and those of odd ones in `second`.
-/// Both have half its width.
+/// Splits a plane of interleaved pixels: `first` gets the pixels in even columns of `source`, and `second` those in odd
+/// columns. The padding of both is unchanged.
+///
+/// `first` and `second` have the same size. `source` is twice as wide and equally high.
 pub fn deinterleave<T: Pixel>(source: &PlaneRef<'_, T>, first: &mut Plane<T>, second: &mut Plane<T>)
     requires wide { source.now.geometry.width ≡ 2 * first.old.geometry.width }
     requires high { source.now.geometry.height ≡ first.old.geometry.height }

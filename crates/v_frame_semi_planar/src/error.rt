@@ -1,22 +1,22 @@
-//! Why a frame was not read from a semi-planar layout, or not written in one.
+//! Errors of reading and writing semi-planar frames.
 
 use thiserror::Error;
 use v_frame_planar::PlanarError;
 
-/// Why [`read_frame`](crate::read_frame) or [`write_frame`](crate::write_frame) gave up. For all but the last nothing was read
-/// or written.
+/// Why [`read_frame`](crate::read_frame) or [`write_frame`](crate::write_frame) failed. After any error except
+/// [`Planar`](Self::Planar), nothing was read or written.
 #[derive(Debug, PartialEq, Eq, Drop, Error)]
 pub enum SemiPlanarError {
-    /// The bit depth of the frame, or the type of its pixels, is not that of the layout.
+    /// The bit depth or the pixel type of the frame differs from that of the layout.
     #[error("wrong bit depth")]
     BitDepth,
-    /// The chroma format of the frame is not that of the layout.
+    /// The chroma subsampling of the frame differs from that of the layout.
     #[error("wrong chroma subsampling")]
     Subsampling,
-    /// A chroma plane is missing, or it is not as large as it takes to cover luma.
+    /// A chroma plane is missing, or does not have the size that covers luma.
     #[error("wrong chroma size")]
     ChromaSize,
-    /// The reader or the writer, or the request for memory, failed.
+    /// The reader, the writer or a memory allocation failed, or the stream ended inside the frame.
     #[error(transparent)]
     Planar(PlanarError),
 }

@@ -1,4 +1,4 @@
-//! The semi-planar layouts, and which frames they are for.
+//! The semi-planar layouts, and the frames that fit them.
 ghost use Rattle.std.specs.Prelude.{◌≡◌, ◌*◌, ◌<◌, ◌≤◌, ◌↔◌, option_map, IfErr, IsTrue, OnOk, Some};
 ghost use Rattle.v_frame.specs.Prelude.{table_of};
 ghost use Rattle.v_frame_planar.specs.Planar.{size_of};
@@ -12,23 +12,23 @@ use v_frame::pixel::Pixel;
 use v_frame::plane::Plane;
 use v_frame_planar::subsample_ratio_or_one;
 
-/// A semi-planar layout, by the name that ffmpeg's pixel formats have: the rows of luma come first, then rows in which the
-/// pixels of U and V are by turns. Chroma has as many columns and rows as it takes to cover luma.
+/// A semi-planar layout, named after the pixel format of ffmpeg. The rows of luma come first, followed by rows in which U and V
+/// samples are interleaved. The size of the chroma planes is rounded up, so that chroma covers luma.
 #[derive(Debug, Clone, Copy, PartialEq, Eq)]
 pub enum SemiPlanarFormat {
-    /// Samples of 8 bits, chroma at half the width and half the height.
+    /// 8-bit samples, chroma at half the width and half the height, U first.
     Nv12,
-    /// The same with V before U.
+    /// 8-bit samples, chroma at half the width and half the height, V first.
     Nv21,
-    /// Samples of 8 bits, chroma at half the width.
+    /// 8-bit samples, chroma at half the width and the full height.
     Nv16,
-    /// Samples of 8 bits, chroma at the size of luma.
+    /// 8-bit samples, chroma at full size.
     Nv24,
-    /// Samples of 10 bits in the top bits of little-endian words, chroma at half the width and half the height.
+    /// 10-bit samples in the top bits of little-endian 16-bit words, chroma at half the width and half the height.
     P010,
-    /// The same with samples of 12 bits.
+    /// 12-bit samples in the top bits of little-endian 16-bit words, chroma at half the width and half the height.
     P012,
-    /// The same with samples of 16 bits.
+    /// 16-bit little-endian samples, chroma at half the width and half the height.
     P016,
 }
 
@@ -44,7 +44,7 @@ impl SemiPlanarFormat {
         }
     }
 
-    /// Returns the bits of a sample.
+    /// Returns the number of bits of a sample.
     pub fn bit_depth(self) -> u8
         ensures value { result ≡ depth_of self }
         ensures fits { result ≤ 8 * sample_size_of self }
@@ -57,7 +57,7 @@ impl SemiPlanarFormat {
         }
     }
 
-    /// Returns the bytes of a sample: 1 for 8 bits, else 2.
+    /// Returns the number of bytes of a sample: 1 for 8 bits, and 2 for more.
     pub fn sample_size(self) -> usize
         ensures { result ≡ sample_size_of self }
     {
@@ -67,7 +67,7 @@ impl SemiPlanarFormat {
         }
     }
 
-    /// Returns how many low bits of its bytes a sample doesn't use.
+    /// Returns the number of low bits that a sample leaves unused in its bytes.
     pub fn unused_bits(self) -> u32
         ensures value { result ≡ unused_bits self }
         ensures few { result < 8 }
@@ -86,7 +86,8 @@ impl SemiPlanarFormat {
         self == SemiPlanarFormat::Nv21
     }
 
-    /// Returns the width and the height in pixels of each chroma plane beside luma of this size, rounded up.
+    /// Returns the width and the height, in pixels, of each chroma plane of a frame of `width` by `height` luma pixels. Both
+    /// are rounded up.
     pub fn chroma_size(self, width: usize, height: usize) -> (usize, usize)
         ensures { Some result ≡ chroma_sizes_of (subsampling_of self) width height }
     {
@@ -95,15 +96,17 @@ impl SemiPlanarFormat {
     }
 }
 
-/// Tests whether a frame is one for a layout: [`write_frame`](crate::write_frame) writes it in that layout, and
-/// [`read_frame`](crate::read_frame) reads one from it into the frame.
+/// Tests whether `frame` fits the layout `format`, so that [`write_frame`](crate::write_frame) can write it and
+/// [`read_frame`](crate::read_frame) can read into it.
 ///
 /// # Errors
 ///
-/// The first of these that holds. [`SemiPlanarError::BitDepth`] where the depth is another, or the pixels are not `u8` for a
-/// depth of 8 and `u16` for more; [`SemiPlanarError::Subsampling`] where the chroma subsampling is another;
-/// [`SemiPlanarError::ChromaSize`] where a chroma plane is missing, or has another size than
-/// [`chroma_size`](SemiPlanarFormat::chroma_size) of luma's.
+/// The first of these that applies:
+///
+/// - [`SemiPlanarError::BitDepth`] if the bit depths differ, or if the pixel type is not `u8` for 8 bits and `u16` for more.
+/// - [`SemiPlanarError::Subsampling`] if the chroma subsamplings differ.
+/// - [`SemiPlanarError::ChromaSize`] if a chroma plane is missing or does not have the
+///   [`chroma_size`](SemiPlanarFormat::chroma_size) that belongs to the luma plane.
 pub fn check_layout<T: Pixel>(
     frame: &Frame<T>,
     format: SemiPlanarFormat,
@@ -124,7 +127,7 @@ pub fn check_layout<T: Pixel>(
     Ok(())
 }
 
-/// Returns whether a plane is there and has this width and height.
+/// Returns whether a plane is present and has this width and height.
 fn has_size<T: Pixel>(plane: &Option<Plane<T>>, size: (usize, usize)) -> bool
     ensures { IsTrue result ↔ (option_map size_of (option_map table_of plane.now) ≡ Some size) }
 {

@@ -1,4 +1,4 @@
-//! Laws of semi-planar layouts. Each is the contract of a function, for callers that have frames at hand.
+//! Laws of semi-planar layouts. Each law is the contract of a function that callers call with their own frames.
 ghost use Rattle.std.specs.Prelude.{All, ◌≡◌, ◌/◌, ◌^◌, ◌<◌, length};
 ghost use Rattle.v_frame.specs.Prelude.{tables_of};
 ghost use Rattle.v_frame_semi_planar.specs.Format.{depth_of, sample_size_of, unused_bits};
@@ -8,8 +8,8 @@ use crate::format::SemiPlanarFormat;
 use v_frame::frame::Frame;
 use v_frame::pixel::Pixel;
 
-/// The bytes of a frame in a layout show its samples again, where all of them are below 2 to the power of the layout's bit
-/// depth. So what was written of it and is read comes back.
+/// Decoding the bytes of a frame gives its samples again, if each sample is below 2 to the power of the layout's bit depth. So
+/// a frame that is written and read again is unchanged.
 pub fn samples_come_back<T: Pixel>(frame: &Frame<T>, format: SemiPlanarFormat)
     ensures { let bytes = semi_planar_bytes T.form format (tables_of frame.now) in
         let pixels = semi_planar_pixels format (tables_of frame.now) in

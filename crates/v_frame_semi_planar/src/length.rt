@@ -1,4 +1,4 @@
-//! How many bytes a frame has in a semi-planar layout.
+//! The number of bytes of a frame in a semi-planar layout.
 ghost use Rattle.std.specs.Prelude.{◌≡◌, ◌*◌, length, min, IfErr, IfOk, OnOk};
 ghost use Rattle.v_frame.specs.Prelude.{row_major, table_of, tables_of, usize_max};
 ghost use Rattle.v_frame_ops.specs.Change.{combined};
@@ -13,12 +13,12 @@ use v_frame::frame::Frame;
 use v_frame::pixel::Pixel;
 use v_frame::plane::Plane;
 
-/// Returns how many bytes a frame has in a semi-planar layout: as many as [`read_frame`](crate::read_frame) asks for, and
-/// [`write_frame`](crate::write_frame) writes. The count saturates at `usize::MAX`.
+/// Returns the number of bytes of `frame` in the layout `format`. [`read_frame`](crate::read_frame) reads and
+/// [`write_frame`](crate::write_frame) writes this number of bytes. It saturates at `usize::MAX`.
 ///
 /// # Errors
 ///
-/// Those of [`check_layout`](crate::check_layout).
+/// The errors of [`check_layout`](crate::check_layout).
 pub fn semi_planar_len<T: Pixel>(
     frame: &Frame<T>,
     format: SemiPlanarFormat,
@@ -33,18 +33,18 @@ pub fn semi_planar_len<T: Pixel>(
     Ok(frame.y_plane.byte_len().saturating_add(chroma))
 }
 
-/// Returns how many bytes two planes of one size have by turns.
+/// Returns the number of bytes of two planes of the same size, interleaved.
 fn pair_len<T: Pixel>(first: &Plane<T>, second: &Plane<T>) -> usize
     requires { size_of (table_of first.now) ≡ size_of (table_of second.now) }
     ensures { result ≡ T.form.size
         * length (row_major (combined interleaved (table_of first.now) (table_of second.now))) }
 {
-    // The rows of a plane are as long as its width that was read.
+    // Reading the widths states that all rows of each plane have that length.
     let _widths = (first.width(), second.width());
     first.byte_len() + second.byte_len()
 }
 
-/// Returns the two chroma planes of a frame that is one for a layout, in the order in which the layout has them.
+/// Returns the two chroma planes of a frame, in the order of the layout. Fails if the frame does not fit the layout.
 pub(crate) fn chroma_planes<T: Pixel>(
     frame: &Frame<T>,
     format: SemiPlanarFormat,

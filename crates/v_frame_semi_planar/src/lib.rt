@@ -1,12 +1,13 @@
-//! Semi-planar video: luma in one plane, and both chroma components by turns in another, as hardware decoders hand pictures out
-//! and hardware encoders take them.
+//! Semi-planar video: luma in one plane, and both chroma components interleaved in another. Hardware decoders and encoders use
+//! these layouts.
 //!
-//! [`interleave`] puts two chroma planes together and [`deinterleave`] takes them apart; [`to_top_bits`] and [`from_top_bits`]
-//! move samples within their words. [`rows`] has the same over rows that are kept elsewhere. [`write_frame`] and [`read_frame`]
-//! write a frame in one of the layouts of [`SemiPlanarFormat`] and read it back, with what `v_frame_planar` promises of planar
-//! video.
+//! [`interleave`] combines two chroma planes and [`deinterleave`] splits them. [`to_top_bits`] and [`from_top_bits`] move
+//! samples within their 16-bit words. The module [`rows`] has the same operations for rows in plain buffers.
 //!
-//! Our own. `Rattle.v_frame_semi_planar.specs.Prelude` has the words for clauses.
+//! [`write_frame`] writes a frame in one of the layouts of [`SemiPlanarFormat`], and [`read_frame`] reads it back. Their
+//! guarantees are those of the functions of `v_frame_planar` for planar frames.
+//!
+//! `Rattle.v_frame_semi_planar.specs.Prelude` re-exports the definitions that contracts cite.
 #![tactic(auto)]
 
 mod byte_pairs;

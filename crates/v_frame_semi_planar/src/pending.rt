@@ -1,4 +1,4 @@
-//! The samples of a frame that are still to be written in a semi-planar layout, encoded block by block.
+//! Encodes the samples of a frame in a semi-planar layout block by block.
 ghost use Rattle.std.specs.Prelude.{ℕ, List, ◌≡◌, ◌*◌, ◌++◌, ◌<◌, ◌≤◌, [], length, take, MatchOption};
 ghost use Rattle.v_frame.specs.Prelude.{row_major, table_of};
 ghost use Rattle.v_frame_ops.specs.Change.{combined};
@@ -9,7 +9,8 @@ use crate::samples::{encode_pairs, encode_samples};
 use v_frame::pixel::Pixel;
 use v_frame::plane::{Plane, Rows};
 
-/// What is left of the row that was begun, of luma or of both chroma planes, and the rows of each plane after it.
+/// The samples that are still to be encoded: the rest of the current row of luma or of both chroma planes, and the remaining
+/// rows of each plane.
 #[derive(Drop)]
 pub(crate) struct Pending<'a, T> {
     luma: &'a [T],
@@ -23,7 +24,7 @@ pub(crate) struct Pending<'a, T> {
 impl<'a, T: Pixel> Pending<'a, T> {
     ghost use Rattle.v_frame_semi_planar.specs.Pending.{pixels_pending, steps_pending, Encodes};
 
-    /// All samples of luma, and after them those of two chroma planes by turns.
+    /// Begins with all samples of luma, followed by the interleaved samples of the two chroma planes.
     pub(crate) fn new(luma: &'a Plane<T>, first: &'a Plane<T>, second: &'a Plane<T>) -> Self
         ensures { pixels_pending result ≡ row_major (table_of luma.now)
             ++ row_major (combined interleaved (table_of first.now) (table_of second.now)) }
@@ -38,7 +39,8 @@ impl<'a, T: Pixel> Pending<'a, T> {
         }
     }
 
-    /// Encodes samples until no further pair fits the block, and returns how many bytes they have.
+    /// Encodes samples into `block` until no other pair fits or none is left, and returns the number of bytes encoded. `unused`
+    /// is the number of unused low bits of each sample.
     pub(crate) fn fill(&mut self, block: &mut [u8], unused: u32) -> usize
         requires room { 4 ≤ length block.old }
         requires few { unused < 8 }
@@ -59,8 +61,8 @@ impl<'a, T: Pixel> Pending<'a, T> {
         filled
     }
 
-    /// Encodes samples of the row that was begun, as many as fit the block, or begins the next row, and returns how many bytes
-    /// they have. `None` where there is no row.
+    /// Encodes as many samples of the current row as fit `block`, or begins the next row. Returns the number of bytes encoded,
+    /// or `None` if no row is left.
     fn encode_next(&mut self, block: &mut [u8], unused: u32) -> Option<usize>
         requires room { 2 * T.BYTES ≤ length block.old }
         requires few { unused < 8 }
@@ -82,7 +84,7 @@ impl<'a, T: Pixel> Pending<'a, T> {
         self.begin_chroma()
     }
 
-    /// Begins the next row of both chroma planes. `None` where there is none.
+    /// Begins the next row of both chroma planes. Returns `None` if no row is left, and 0 otherwise.
     fn begin_chroma(&mut self) -> Option<usize>
         requires luma { self.old.luma.now ≡ [] }
         requires rows { self.old.luma_rows ≡ [] }
@@ -100,7 +102,7 @@ impl<'a, T: Pixel> Pending<'a, T> {
         Some(0)
     }
 
-    /// Encodes samples of the luma row that was begun, as many as fit the block.
+    /// Encodes as many samples of the current luma row as fit `block`, and returns the number of bytes encoded.
     fn encode_luma(&mut self, block: &mut [u8], unused: u32) -> usize
         requires some { 0 < length self.old.luma.now }
         requires room { T.BYTES ≤ length block.old }
@@ -116,7 +118,7 @@ impl<'a, T: Pixel> Pending<'a, T> {
         end
     }
 
-    /// Encodes samples of the two chroma rows that were begun, as many as fit the block.
+    /// Encodes as many samples of the current two chroma rows as fit `block`, and returns the number of bytes encoded.
     fn encode_chroma(&mut self, block: &mut [u8], unused: u32) -> usize
         requires luma { self.old.luma.now ≡ [] }
         requires rows { self.old.luma_rows ≡ [] }

@@ -1,4 +1,4 @@
-//! Frames from the bytes of a semi-planar layout.
+//! Reads frames from the bytes of a semi-planar layout.
 ghost use Rattle.std.specs.Prelude.{◌≡◌, ◌<◌, ◌≤◌, [], false, length, Err, IfErr, IfOk, MatchOption, MatchResult, OnErr, OnOk};
 ghost use Rattle.std.specs.Io.KnownBytes.{Consumes, IsAtEnd};
 ghost use Rattle.v_frame.specs.Prelude.{isize_max, tables_of, KeepsBorders};
@@ -16,22 +16,26 @@ use v_frame::frame::Frame;
 use v_frame::pixel::Pixel;
 use v_frame_planar::{Counted, PlanarError, read_until_full};
 
-/// Reads the bytes of a frame in a semi-planar layout and shows its samples in the frame. `false` where the reader stood at its
-/// end before the first byte.
+/// Reads the bytes of the next frame, which are in the layout `format`, into `frame`. Returns `false` if the reader was at its
+/// end.
 ///
-/// The sizes of the frame say how many bytes it has, and no more are asked for: what stands after them is left for the next
-/// call. The border stays. Room for all the bytes is taken before the first is read, and they are shown when the last one has
-/// come, so a frame that was not read whole is as it was. Where the layout has its samples in the top bits of words, the bits
-/// below them are lost.
+/// The sizes of the planes of `frame` determine how many bytes are read. Nothing after them is consumed. The padding of `frame`
+/// is unchanged. The call allocates a buffer for all bytes of the frame before it reads the first one, and changes `frame` only
+/// after it has read the last one. If the layout has its samples in the top bits of words, the bits below them are discarded.
 ///
 /// # Errors
 ///
-/// Those of [`check_layout`](crate::check_layout): then nothing was read. Else [`SemiPlanarError::Planar`]: of
-/// [`PlanarError::TooLarge`] where the frame has more than `isize::MAX` bytes, else of [`PlanarError::OutOfMemory`] where the
-/// request for memory was refused, and for these nothing was read; of [`PlanarError::Read`] where a read failed, an interrupted
-/// one too, which is not tried again, and [`Counted::last_failure`] says why; of [`PlanarError::Truncated`] where the reader
-/// came to its end inside the frame. After each of them the frame is as it was. The bytes that came before the last two are lost:
-/// a next call would begin inside the frame.
+/// The errors of [`check_layout`](crate::check_layout), after which nothing was read. The other errors are in
+/// [`SemiPlanarError::Planar`]:
+///
+/// - [`PlanarError::TooLarge`] if the frame has more than `isize::MAX` bytes. Nothing was read then.
+/// - [`PlanarError::OutOfMemory`] if the allocation fails. Nothing was read then.
+/// - [`PlanarError::Read`] if a read fails. An interrupted read counts as failed and is not retried. [`Counted::last_failure`]
+///   returns the cause.
+/// - [`PlanarError::Truncated`] if the reader reaches its end inside the frame.
+///
+/// After an error, `frame` is unchanged. After the last two, the bytes read so far are lost, so the next call would begin
+/// inside the frame.
 pub fn read_frame<T: Pixel, R: io::Read>(
     alloc: Global,
     reader: &mut Counted<R>,
@@ -65,7 +69,7 @@ pub fn read_frame<T: Pixel, R: io::Read>(
     Ok(true)
 }
 
-/// Reads so many bytes. `None` where the reader stood at its end before the first one.
+/// Reads `count` bytes. Returns `None` if the reader was at its end.
 fn read_bytes<R: io::Read>(
     alloc: Global,
     reader: &mut Counted<R>,
@@ -102,9 +106,11 @@ fn read_bytes<R: io::Read>(
     })
 }
 
-/// Shows the bytes of a frame in a semi-planar layout in it, as [`read_frame`] does of those that it reads.
+/// Stores the bytes of a frame, which are in the layout `format`, in `frame`, as [`read_frame`] does with the bytes that it
+/// reads.
 ///
-/// There must be as many as [`semi_planar_len`] says, which also tests the frame. The border stays.
+/// The length of `bytes` must be that which [`semi_planar_len`] returns for the frame. That call also tests whether the frame
+/// fits the layout. The padding of `frame` is unchanged.
 pub fn show_semi_planar_bytes<T: Pixel>(
     frame: &mut Frame<T>,
     bytes: &[u8],

@@ -1,8 +1,9 @@
-//! The same over rows that are kept elsewhere, each a stride after the one before, as decoders lay pictures out.
+//! The operations for rows in plain buffers, in which each row begins one stride after the previous one, as decoders lay out
+//! pictures.
 //!
-//! What is read is a [`RowsRef`](v_frame::plane::RowsRef). What is written is a buffer beside its width, height and stride in
-//! pixels, for which [`rows_fit`](v_frame::plane::rows_fit) holds; all of the buffer but these rows stays as it was. The calls
-//! of planes are made of these.
+//! The source is a [`RowsRef`](v_frame::plane::RowsRef). The target is a slice `buffer` with its width, height and stride in
+//! pixels, for which [`rows_fit`](v_frame::plane::rows_fit) must hold. Everything in the buffer outside these rows is
+//! unchanged. The functions for planes call these functions.
 
 mod chroma;
 mod top_bits;

@@ -1,4 +1,4 @@
-//! Rows of samples as their bytes, above low bits that aren't used.
+//! Encodes and decodes rows of samples, which may leave low bits of their bytes unused.
 ghost use Rattle.std.specs.Prelude.{◌≡◌, ◌*◌, ◌/◌, ◌^◌, ◌<◌, length};
 ghost use Rattle.v_frame.specs.Prelude.{bytes_of, value_of_bytes};
 ghost use Rattle.v_frame_semi_planar.specs.Interleaved.{interleaved};
@@ -7,7 +7,7 @@ ghost use Rattle.v_frame_semi_planar.specs.SemiPlanar.{shown_pixels, stored_byte
 use crate::byte_pairs::{decode_blocks, pairs_in_blocks};
 use v_frame::pixel::{Pixel, encode_row};
 
-/// Encodes a row: the bytes of each sample, which is moved up by the bits that aren't used, low byte first.
+/// Encodes a row: each sample is shifted left by `unused` bits and written in little-endian order.
 pub(crate) fn encode_samples<T: Pixel>(bytes: &mut [u8], row: &[T], unused: u32)
     requires long { length bytes.old ≡ T.BYTES * length row.now }
     requires few { unused < 8 }
@@ -20,7 +20,7 @@ pub(crate) fn encode_samples<T: Pixel>(bytes: &mut [u8], row: &[T], unused: u32)
     }
 }
 
-/// The same of samples that are moved.
+/// Encodes a row whose samples have to be shifted.
 fn encode_moved<T: Pixel>(bytes: &mut [u8], row: &[T], unused: u32)
     requires long { length bytes.old ≡ T.BYTES * length row.now }
     requires few { unused < 8 }
@@ -32,7 +32,7 @@ fn encode_moved<T: Pixel>(bytes: &mut [u8], row: &[T], unused: u32)
     }
 }
 
-/// Encodes two rows, a sample of the first, one of the second, and so on by turns.
+/// Encodes two rows with their samples interleaved.
 pub(crate) fn encode_pairs<T: Pixel>(bytes: &mut [u8], first: &[T], second: &[T], unused: u32)
     requires long { length bytes.old ≡ 2 * T.BYTES * length first.now }
     requires equal { length second.now ≡ length first.now }
@@ -61,7 +61,7 @@ fn encode_sample<T: Pixel>(bytes: &mut [u8], sample: T, unused: u32)
     }
 }
 
-/// Decodes a row of samples.
+/// Decodes a row of samples: each is read in little-endian order and shifted right by `unused` bits.
 pub(crate) fn decode_samples<T: Pixel>(row: &mut [T], bytes: &[u8], unused: u32)
     requires long { length bytes.now ≡ T.BYTES * length row.old }
     requires few { unused < 8 }
@@ -74,7 +74,7 @@ pub(crate) fn decode_samples<T: Pixel>(row: &mut [T], bytes: &[u8], unused: u32)
     }
 }
 
-/// The same of samples that are moved.
+/// Decodes a row whose samples have to be shifted.
 fn decode_moved<T: Pixel>(row: &mut [T], bytes: &[u8], unused: u32)
     requires long { length bytes.now ≡ T.BYTES * length row.old }
     requires few { unused < 8 }
@@ -86,7 +86,7 @@ fn decode_moved<T: Pixel>(row: &mut [T], bytes: &[u8], unused: u32)
     }
 }
 
-/// Decodes two rows from one in which their samples are by turns.
+/// Decodes a row of interleaved samples into two rows.
 pub(crate) fn decode_pairs<T: Pixel>(first: &mut [T], second: &mut [T], bytes: &[u8], unused: u32)
     requires long { length bytes.now ≡ 2 * T.BYTES * length first.old }
     requires equal { length second.old ≡ length first.old }
@@ -106,7 +106,7 @@ pub(crate) fn decode_pairs<T: Pixel>(first: &mut [T], second: &mut [T], bytes: &
     decode_pairs_of_samples(first_rest, second_rest, rest, unused);
 }
 
-/// The same, sample by sample.
+/// Decodes a row of interleaved samples, sample by sample.
 fn decode_pairs_of_samples<T: Pixel>(first: &mut [T], second: &mut [T], bytes: &[u8], unused: u32)
     requires long { length bytes.now ≡ 2 * T.BYTES * length first.old }
     requires equal { length second.old ≡ length first.old }

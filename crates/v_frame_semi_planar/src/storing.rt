@@ -1,4 +1,4 @@
-//! The bytes of a semi-planar layout shown in the planes of a frame.
+//! Stores the bytes of a semi-planar layout in the planes of a frame.
 ghost use Rattle.std.specs.Prelude.{ℕ, ◌≡◌, ◌*◌, ◌<◌, List, length, option_map, slice_set, Some};
 ghost use Rattle.v_frame.specs.Prelude.{border_and_geometry, row_major, table_of, KeepsBorder};
 ghost use Rattle.v_frame_ops.specs.Change.{combined};
@@ -12,7 +12,7 @@ use crate::samples::{decode_pairs, decode_samples};
 use v_frame::pixel::Pixel;
 use v_frame::plane::Plane;
 
-/// Shows the samples of bytes in a plane. There must be just as many bytes as its pixels take.
+/// Decodes `bytes` into a plane. Their number must be that of the plane.
 pub(crate) fn store_plane<T: Pixel>(plane: &mut Plane<T>, bytes: &[u8], unused: u32)
     requires long { length bytes.now ≡ T.form.size * length (row_major (table_of plane.old)) }
     requires few { unused < 8 }
@@ -21,13 +21,14 @@ pub(crate) fn store_plane<T: Pixel>(plane: &mut Plane<T>, bytes: &[u8], unused: 
     ensures border { KeepsBorder plane.old plane.new }
     ensures size { size_of (table_of plane.new) ≡ size_of (table_of plane.old) }
 {
-    // The sizes of a table are those that are read of its plane, before and after.
+    // The size of the table is the size that is read from the plane, before and after.
     let _before = (plane.width(), plane.height());
     store_luma(plane, bytes, unused);
     let _after = (plane.width(), plane.height());
 }
 
-/// Shows the samples of bytes in two planes of one size by turns. There must be just as many bytes as their pixels take.
+/// Decodes the interleaved samples in `bytes` into two planes of the same size. The number of bytes must be that of both planes
+/// together.
 pub(crate) fn store_pair<T: Pixel>(
     first: &mut Plane<T>,
     second: &mut Plane<T>,
@@ -47,7 +48,7 @@ pub(crate) fn store_pair<T: Pixel>(
     ensures size { size_of (table_of first.new) ≡ size_of (table_of first.old) }
     ensures second_size { size_of (table_of second.new) ≡ size_of (table_of second.old) }
 {
-    // The sizes of a table are those that are read of its plane, before and after.
+    // The size of each table is the size that is read from its plane, before and after.
     let _before = (first.width(), first.height());
     let _second_before = (second.width(), second.height());
     store_chroma(first, second, bytes, unused);
@@ -55,7 +56,7 @@ pub(crate) fn store_pair<T: Pixel>(
     let _second_after = (second.width(), second.height());
 }
 
-/// Shows the samples of bytes in a plane, row after row.
+/// Decodes `bytes` into a plane, row by row.
 fn store_luma<T: Pixel>(plane: &mut Plane<T>, bytes: &[u8], unused: u32)
     requires long { length bytes.now
         ≡ plane.old.geometry.width * plane.old.geometry.height * T.form.size }
@@ -72,7 +73,7 @@ fn store_luma<T: Pixel>(plane: &mut Plane<T>, bytes: &[u8], unused: u32)
     }
 }
 
-/// Shows the samples of bytes in a row.
+/// Decodes `bytes` into row `y` of a plane.
 fn store_luma_row<T: Pixel>(plane: &mut Plane<T>, y: usize, bytes: &[u8], unused: u32)
     requires high { y < plane.old.geometry.height }
     requires long { length bytes.now ≡ T.BYTES * plane.old.geometry.width }
@@ -84,7 +85,7 @@ fn store_luma_row<T: Pixel>(plane: &mut Plane<T>, y: usize, bytes: &[u8], unused
     decode_samples(plane.visible_row_mut(y), bytes, unused);
 }
 
-/// Shows the samples of bytes in two planes of one size by turns, row after row.
+/// Decodes the interleaved samples in `bytes` into two planes of the same size, row by row.
 fn store_chroma<T: Pixel>(first: &mut Plane<T>, second: &mut Plane<T>, bytes: &[u8], unused: u32)
     requires wide { second.old.geometry.width ≡ first.old.geometry.width }
     requires high { second.old.geometry.height ≡ first.old.geometry.height }
@@ -106,7 +107,7 @@ fn store_chroma<T: Pixel>(first: &mut Plane<T>, second: &mut Plane<T>, bytes: &[
     }
 }
 
-/// Shows the samples of bytes in a row of each plane by turns.
+/// Decodes the interleaved samples in `bytes` into row `y` of both planes.
 fn store_chroma_rows<T: Pixel>(
     first: &mut Plane<T>,
     second: &mut Plane<T>,
@@ -134,7 +135,8 @@ fn store_chroma_rows<T: Pixel>(
     );
 }
 
-/// Shows the samples of bytes in the chroma planes of a layout by turns. There must be just as many bytes as their pixels take.
+/// Decodes the interleaved samples in `bytes` into the chroma planes, in the order of the layout. The number of bytes must be
+/// that of both planes together.
 pub(crate) fn store_chroma_planes<T: Pixel>(
     u_plane: &mut Option<Plane<T>>,
     v_plane: &mut Option<Plane<T>>,

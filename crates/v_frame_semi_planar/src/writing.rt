@@ -1,4 +1,4 @@
-//! Frames as the bytes of a semi-planar layout.
+//! Writes frames in a semi-planar layout.
 ghost use Rattle.std.specs.Prelude.{◌≡◌, ◌<◌, IfErr, MatchResult, OnOk};
 ghost use Rattle.std.specs.Io.KnownBytes.{Appends};
 ghost use Rattle.v_frame.specs.Prelude.{tables_of};
@@ -16,21 +16,22 @@ use v_frame::frame::Frame;
 use v_frame::pixel::Pixel;
 use v_frame_planar::{Counted, PlanarError};
 
-/// How many bytes are encoded and offered at once.
+/// The number of bytes that are encoded and written at once.
 const BLOCK: usize = 16384;
 
-/// Writes the bytes of a frame in a semi-planar layout: the rows of luma, then rows in which the samples of both chroma planes
-/// are by turns, as ffmpeg's pixel format of the name has them. It takes no memory.
+/// Writes the bytes of `frame` in the layout `format`: the rows of luma, followed by rows in which the samples of both chroma
+/// planes are interleaved. This is the layout of the pixel format of ffmpeg with the same name. No memory is allocated.
 ///
-/// Where the layout has its samples in the top bits of words, a sample that has more bits than the depth of the frame loses
-/// those above.
+/// If the layout has its samples in the top bits of words, bits of a sample above the bit depth are lost.
 ///
 /// # Errors
 ///
-/// Those of [`check_layout`](crate::check_layout): then nothing was written. Else [`SemiPlanarError::Planar`], where a
-/// beginning of the bytes was written: of [`PlanarError::Write`] where a write failed, an interrupted one too, which is not
-/// tried again, and [`Counted::last_failure`] says why; of [`PlanarError::WriteZero`] where a write took none of the bytes that
-/// it was offered.
+/// The errors of [`check_layout`](crate::check_layout), after which nothing was written. The other errors are in
+/// [`SemiPlanarError::Planar`], and part of the frame may have been written:
+///
+/// - [`PlanarError::Write`] if a write fails. An interrupted write counts as failed and is not retried.
+///   [`Counted::last_failure`] returns the cause.
+/// - [`PlanarError::WriteZero`] if a write accepts none of the bytes.
 pub fn write_frame<T: Pixel, W: io::Write>(
     writer: &mut Counted<W>,
     frame: &Frame<T>,

@@ -1,4 +1,5 @@
--- Where a frame breaks off: a read failed, or the stream ended behind the bytes that were read.
+-- Frames that are not read whole: a read failed, or the stream ended after the bytes that were
+-- read.
 use Rattle.std.proofs.Common.{ℕ, ◌≡◌, ◌<◌, ◌+◌, List, ◌∷◌, ◌++◌, length, refl, sym, ◌∙◌, subst, arith, append_assoc}
 use Rattle.std.proofs.lemmas.List.{length-append}
 use Rattle.std.specs.Io.KnownBytes.{Consumes}
@@ -29,7 +30,7 @@ module _ (start left : Unread) (count : ℕ) where
     fails_before : (problem : Problem) → FailsToRead mid left problem → FailsToRead start left problem
     fails_before problem fails = (fails.0, subst (λ (n : ℕ). HasFailed n left.failures) uncounted fails.1)
 
-    -- more of the frame was read in front of it
+    -- More bytes of the frame were read in front of that position.
     pub stops_behind : (before : ℕ) (bytes : List ℕ) → Consumes start.bytes mid.bytes bytes → (problem : Problem)
         → StopsInside (before + length bytes) mid left count problem → StopsInside before start left count problem
     stops_behind before bytes read (Stream (Planar (Truncated expected found))) stops = (
@@ -47,7 +48,7 @@ module _ (start left : Unread) (count : ℕ) where
     framed_more Y4m line front bytes = append_assoc line (line_feed ∷ front) bytes
     framed_more Raw line front bytes = refl
 
-    -- the front of the frame was read, behind its line
+    -- The front of the frame was read, after its line.
     pub stops_in_frame : (from : Container) (line front : List ℕ) → HasLine from line → (from ≡ Raw → 0 < length front)
         → Consumes start.bytes mid.bytes (framed_bytes from (line, front)) → (problem : Problem)
         → StopsInside (length front) mid left count problem → StopsFrame from start left count problem

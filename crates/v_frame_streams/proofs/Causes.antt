@@ -1,4 +1,4 @@
--- The cause of a problem is its own: what was reported to it is what it reports.
+-- The cause of a problem is its own: if it is assigned again, it does not change.
 use Rattle.std.proofs.Common.{◌≡◌, Option, refl}
 use Rattle.std.specs.declared.io.ErrorKind.{ErrorKind}
 use Rattle.v_frame_planar.specs.declared.error.PlanarError.TheVariants.{Read, Write}

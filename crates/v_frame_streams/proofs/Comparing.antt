@@ -21,7 +21,7 @@ use Rattle.v_frame_formats.specs.declared.sums.PlaneSums.{PlaneSums}
 use Rattle.v_frame_streams.proofs.Reading.{none_read, one_more_read}
 
 module _ {T : Type 0} (form : PixelForm T) where
-  -- the first pixel that differs stays the first
+  -- The first pixel that differs stays the first.
   one_more_difference : (pairs : List (Pair T)) (pair : Pair T) (earlier now : Option (ℕ × PixelDifference)) →
       IsDifference form pairs earlier
       → IfSome earlier (λ found. now ≡ Some found) → IsNone now ↔ (IsNone earlier × (pair.0 ≡ pair.1))
@@ -55,7 +55,7 @@ module _ {T : Type 0} (form : PixelForm T) where
             told.1;
       }
 
-  -- the sums of two frames, plane by plane
+  -- The sums of two frames, plane by plane.
   abbrev planes : ℕ → Option ℕ → Option ℕ → PlaneSums
   planes y u v = record { y = y; u = u; v = v }
 
@@ -67,7 +67,7 @@ module _ {T : Type 0} (form : PixelForm T) where
       ap (λ (y : ℕ). planes y sums.u sums.v) same_y ∙ ap (λ (u : Option ℕ). planes all.y u sums.v) same_u ∙ ap
       (λ (v : Option ℕ). planes all.y all.u v) same_v
 
-  -- one more pair was taken
+  -- The observer received one more pair.
   each_and_one : {A : Type 0} (takes : A → A → Tables T → Tables T → PlaneSums → Type 0) (pairs : List (Pair T))
       (pair : Pair T) (old mid new : A) → TakesEach form takes pairs old mid
       → takes mid new pair.0 pair.1 (errors_between form pair) → TakesEach form takes (pairs ++ pair ∷ []) old new
@@ -126,7 +126,7 @@ module _ {T : Type 0} (form : PixelForm T) where
                 (one_more_read other.container other.frame_len right far right' _ before.second second also_whole also_read);
           }
 
-      -- one stream came to its end, or both
+      -- One stream or both ended.
       pub compared_to_end : (most : ℕ) (longer : Option Place) (more also : Bool)
           → ReadsWhole mid_left left' one.container one.frame_len more
           → ReadsWhole far right' other.container other.frame_len also
@@ -147,7 +147,7 @@ module _ {T : Type 0} (form : PixelForm T) where
         ends = inr (more, also, read, also_read, told, shorter);
       }
 
-      -- one more pair of frames was compared and taken
+      -- One more pair of frames was compared, and the observer received it.
       pub one_more_watched : {A : Type 0} (takes : A → A → Tables T → Tables T → PlaneSums → Type 0) (old mid new : A)
           → TakesEach form takes (map (shown form size one.layout other.layout) before.frames) old mid
           → (first second : Framed) (first_is : IsFrame one.container one.frame_len first)
@@ -167,7 +167,7 @@ module _ {T : Type 0} (form : PixelForm T) where
             told),
       )
 
-      -- one stream came to its end, or both, and the observer took the pairs before
+      -- One stream or both ended, and the observer received the pairs before.
       pub watched_to_end : {A : Type 0} (takes : A → A → Tables T → Tables T → PlaneSums → Type 0) (old new : A)
           → TakesEach form takes (map (shown form size one.layout other.layout) before.frames) old new
           → (most : ℕ) (longer : Option Place) (more also : Bool)
@@ -180,7 +180,7 @@ module _ {T : Type 0} (form : PixelForm T) where
       watched_to_end takes old new taken most longer more also read also_read told shorter =
           (compared_to_end most longer more also read also_read told shorter, taken)
 
-    -- as many frames were compared as asked for
+    -- The requested number of pairs was compared.
     pub watched_all : {A : Type 0} (takes : A → A → Tables T → Tables T → PlaneSums → Type 0) (old new : A)
         (left left' right right' : Option (List ℕ)) (most : ℕ) (found : Comparison)
         → WatchesFrames form size takes old new one other left left' right right' found

@@ -1,4 +1,4 @@
--- A table that holds another one from its first column and row on agrees with it place by place.
+-- A table whose top left part is another table agrees with it at each position.
 use Rattle.std.proofs.Common.{ℕ, ◌≡◌, ◌+◌, ◌<◌, subst, arith}
 use Rattle.v_frame.specs.Prelude.{Table, pixel_at}
 

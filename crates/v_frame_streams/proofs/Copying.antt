@@ -1,4 +1,4 @@
--- A copy is what was passed over, and then what was carried.
+-- A copy consists of frames that were skipped and frames that were copied.
 use Rattle.std.proofs.Common.{ℕ, ◌≡◌, ◌+◌, ◌≤◌, ◌<◌, List, [], ◌++◌, length, drop, take, Option, sym, ◌∙◌, ap, subst}
 use Rattle.std.proofs.Common.{append-nil, length-append, arith, inl, inr, refl, take_all}
 use Rattle.std.proofs.lemmas.Grind.{flat_map-append}
@@ -23,19 +23,19 @@ use Rattle.v_frame_streams.proofs.Reading.{none_read}
 use Rattle.v_frame_streams.specs.declared.options.CopyOptions.{CopyOptions}
 use Rattle.v_frame_streams.specs.declared.stream.Container.{Container}
 
--- of two lists the first is passed over, and the second is no longer than a limit
+-- The first of two lists is skipped, and the second is no longer than a limit.
 second_of_two : {A : Type 0} (first second : List A) (skip limit : ℕ) → length first ≡ skip
     → length second ≤ limit → take limit (drop skip (first ++ second)) ≡ second
 second_of_two first second skip limit long short =
     subst (λ (n : ℕ). take limit (drop n (first ++ second)) ≡ second) long
     (ap (take limit) (drop-append_seam first second) ∙ take_all limit second short)
 
--- nothing stands behind as many items as there are
+-- After skipping as many items as there are, none is left.
 none_behind : {A : Type 0} (items : List A) (skip limit : ℕ) → length items ≤ skip → take limit (drop skip items) ≡ []
 none_behind items skip limit long = ap (take limit) (drop_all skip items long) ∙ take_all limit [] (omega arith)
 
 module _ (from : Container) (count : ℕ) where
-  -- frames that were read one after the other
+  -- Frames that were read by two calls.
   two_reads : (left mid left' : Option (List ℕ)) (first second : List Framed) → ReadsFrames left mid from count first
       → ReadsFrames mid left' from count second → ReadsFrames left left' from count (first ++ second)
   two_reads left mid left' first second before after = record {
@@ -44,7 +44,7 @@ module _ (from : Container) (count : ℕ) where
         (Consumes-trans left mid left' _ _ before.read after.read);
   }
 
-  -- nothing was read or written yet
+  -- Nothing has been read or written.
   pub none_broken : (left : Option (List ℕ)) (skip most : ℕ) (begun : ℕ × ℕ)
       → BreaksCopy from count left skip most begun begun
   none_broken left skip most begun = record {
@@ -58,7 +58,7 @@ module _ (from : Container) (count : ℕ) where
     behind = inl (omega arith);
   }
 
-  -- a copy gave up behind the frames that were passed over
+  -- A copy failed after the skipped frames.
   pub skipped_and_broken : (left mid : Option (List ℕ)) (skip most : ℕ) (begun now after : ℕ × ℕ)
       → CountsFrames left mid from count skip skip → now.0 ≡ min (begun.0 + skip) most_frames → now.1 ≡ begun.1
       → BreaksCopy from count mid 0 most now after → BreaksCopy from count left skip most begun after
@@ -86,7 +86,7 @@ module _ (from : Container) (count : ℕ) where
 
   module _ (to : Container) (options : CopyOptions) (header : StreamHeader) (made : List ℕ → List ℕ)
       (left mid left' has now has' : Option (List ℕ)) (line : Appends has now (header_bytes to header)) where
-    -- as many frames were passed over as asked for
+    -- The requested number of frames was skipped.
     pub skipped_and_carried : (found : ℕ) → CountsFrames left mid from count options.skip options.skip
         → Carries from count mid left' now has' to made (limit_of options) found
         → CopiesBy from count left left' has has' to options header made found
@@ -110,7 +110,7 @@ module _ (from : Container) (count : ℕ) where
               (sym behind) (Appends-trans has now has' _ _ line carried.written);
         }
 
-    -- the stream came to its end before
+    -- The stream ended before that.
     pub skipped_all : (found : ℕ) → found < options.skip → CountsFrames left mid from count options.skip found
         → CopiesBy from count left mid has now to options header made 0
     skipped_all found fewer passed =
@@ -126,7 +126,7 @@ module _ (from : Container) (count : ℕ) where
               (sym none) (subst (Appends has now) (sym (append-nil (header_bytes to header))) line);
         }
 
-  -- which bytes are written of a frame, by the options and the depths
+  -- The bytes that are written for a frame, depending on the options and the bit depths.
   module _ (to : Container) (options : CopyOptions) (header made : StreamHeader)
       (layout : Option SemiPlanarFormat) (left left' has has' : Option (List ℕ))
       (found : ℕ) (says : made ≡ copied_header options header) where
@@ -154,7 +154,7 @@ module _ (from : Container) (count : ℕ) where
         subst (λ (b : Bool). By (λ (bytes : List ℕ). if b then bytes else all_edited bytes)
         (copied_header options header)) (sym edits) by_form
 
--- how pixels are made of bytes, by the depth
+-- The encoding of pixels, depending on the bit depth.
 pub form_of_eight : (depth : ℕ) → depth ≡ 8 → one_byte ≡ form_of depth
 form_of_eight depth is = sym (ap form_of is)
 

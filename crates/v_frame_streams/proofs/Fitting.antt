@@ -1,4 +1,5 @@
--- What a copy takes of each plane lies in it, and makes planes of the sizes that the written header says.
+-- The crop of each plane lies inside it, and gives planes of the sizes in the header that is
+-- written.
 use Rattle.std.proofs.Common.{ℕ, ◌≡◌, ◌∙◌, ◌+◌, ◌/◌, ◌%◌, ◌<◌, ◌≤◌, Bool, true, false, Option, ap, eqb-true, refl, subst, sym, arith}
 use Rattle.std.specs.Prelude.{if◌then◌else◌, ◌==◌, ◌&&◌, Some, None}
 use Rattle.std.specs.Int.{div_ceil}
@@ -32,7 +33,7 @@ use Rattle.v_frame_formats.specs.declared.format.VideoFormat.{VideoFormat}
 use Rattle.v_frame_formats.specs.declared.format.VideoFormat.TheVariants.{Planar, SemiPlanar}
 use Rattle.v_frame_streams.proofs.Scaling.{chroma_sizes_fit}
 
--- one dimension of a chroma plane, for each ratio
+-- One dimension of a chroma plane, for each ratio.
 module _ (at size whole : ℕ) (some : 0 < size) (inside : at + size ≤ whole) where
   inside_1 : (at / 1 + div_ceil size 1 ≤ div_ceil whole 1) × (0 < div_ceil size 1)
   inside_1 = (omega arith, omega arith)
@@ -125,7 +126,7 @@ fits_of_bits bytes Twelve is = record { low = omega arith; high = omega (arith, 
 fits_of_bits bytes Fourteen is = record { low = omega arith; high = omega (arith, is) }
 fits_of_bits bytes Sixteen is = record { low = omega arith; high = omega (arith, is) }
 
--- the depth of a color fits pixels of the size that it asks for
+-- The bit depth of a color fits pixels of the size that it requires.
 depth_fits : (bytes : ℕ) (color : Color) → bytes ≡ pixel_bytes (depth_of color) → DepthFits bytes (depth_of color)
 depth_fits bytes Unstated is = fits_of_eight bytes is
 depth_fits bytes C420 is = fits_of_eight bytes is
@@ -151,7 +152,7 @@ same_format from to told =
     ap (λ (c : ChromaSubsampling). let f : Format = (c, from.1) in f) (same_true the_type _ from.0 to.0 both.0)
     ∙ ap (λ (d : ℕ). let f : Format = (to.0, d) in f) (eqb-true from.1 to.1 both.1)
 
--- frames that are asked for in a layout have what it is for
+-- Frames that are requested in a layout fit it.
 module _ (w h : ℕ) where
   abbrev shape_in : Format → Format × Sizes
   shape_in format =
@@ -171,7 +172,7 @@ module _ (w h : ℕ) where
   fits_layout (Some (SemiPlanar P012)) there bytes is = record { bytes = is; depth = refl; chroma = refl; u = refl; v = refl }
   fits_layout (Some (SemiPlanar P016)) there bytes is = record { bytes = is; depth = refl; chroma = refl; u = refl; v = refl }
 
-  -- pixels of the depth of a layout have as many bytes as its samples
+  -- Pixels with the bit depth of a layout have the size of its samples.
   bytes_of_layout : (layout : SemiPlanarFormat) → pixel_bytes (layout_depth layout) ≡ sample_size_of layout
   bytes_of_layout Nv12 = refl
   bytes_of_layout Nv21 = refl
@@ -181,7 +182,7 @@ module _ (w h : ℕ) where
   bytes_of_layout P012 = refl
   bytes_of_layout P016 = refl
 
-  -- so are frames of a layout that stays
+  -- Frames that keep their layout fit it.
   fits_layout_to : (to : Container) (asked : Option VideoFormat) (there : Color) (layout : Option SemiPlanarFormat)
       → HoldsColor layout there → (bytes : ℕ) → bytes ≡ pixel_bytes (depth_of (color_in asked there))
       → FitsLayout bytes (layout_to to asked layout) (shape_in (format_in (color_in asked there)))
@@ -236,7 +237,7 @@ module _ (bytes other : ℕ) (options : CopyOptions) (header : StreamHeader) (to
       subst (λ (f : Format). FitsLayout bytes (layout_to to options.format there) (shape_in written.width written.height f))
       (sym same) fits
 
-  -- the frames of a stream can be made into what is written
+  -- The frames of a stream can be edited and written as planned.
   pub can_make : IsTakable (taken options header) header → CanMake bytes other plan (sizes_in header)
   can_make takable = record {
     edits = edit_fits options header takable;

@@ -1,4 +1,4 @@
--- Frames in another format, by the sizes that their planes are laid out with.
+-- Frames in another format, with the sizes in the geometries of their planes.
 use Rattle.std.proofs.Common.{ℕ, ◌≡◌, List, Option, refl, sym, ◌∙◌, ap, subst}
 use Rattle.std.specs.Prelude.{Some, None, option_map}
 use Rattle.std.specs.Int.NonZero.{non_zero_u8_get}
@@ -21,7 +21,7 @@ module _ {S T : Type 0} (form : PixelForm S) (other : PixelForm T) where
   chroma_by_size from to None (Some target) = refl
   chroma_by_size from to (Some source) (Some target) = refl
 
-  -- what a conversion shows, by the formats and the sizes
+  -- The tables of a conversion, by the formats and the sizes.
   pub tables_by_format : (source : Frame S) (target : Frame T)
       → converted_tables form other source target
       ≡ in_format form other (format_of source) (format_of target) (sizes_laid_out target) (tables_of source)
@@ -40,7 +40,7 @@ module _ {S T : Type 0} (form : PixelForm S) (other : PixelForm T) where
       ∙ ap of_v (chroma_by_size from to source.v_plane target.v_plane)
 
 module _ {T : Type 0} where
-  -- the size by what a border and a geometry say
+  -- The size that a border and a geometry determine.
   abbrev size_told : Geometry × List (List T) → ℕ × ℕ
   size_told told = (told.0.width, told.0.height)
 
@@ -96,7 +96,7 @@ module _ {S T : Type 0} where
     v = chroma_fits (scales_between source.subsampling target.subsampling) source.v_plane target.v_plane fits.v;
   }
 
--- a frame of a format and sizes that a layout is for is one for it
+-- A frame with the format and the sizes of a layout fits that layout.
 pub has_layout : {T : Type 0} (bytes size : ℕ) (layout : SemiPlanarFormat) (frame : Frame T) → bytes ≡ size
     → LayoutFits bytes layout (format_of frame) (sizes_of (tables_of frame)) → HasLayout size layout frame
 has_layout bytes size layout frame is fits = record {

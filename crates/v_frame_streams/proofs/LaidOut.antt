@@ -1,4 +1,4 @@
--- The tables of a frame are those that its pixels show in the order of a layout.
+-- The tables of a frame are those of its pixels in the order of a layout.
 use Rattle.std.proofs.Common.{ℕ, ◌≡◌, ◌∙◌, ◌+◌, ◌*◌, ◌++◌, All, Bool, true, false, List, [], ◌∷◌, ap, arith, drop, length, refl, subst, sym, take}
 use Rattle.std.proofs.Common.{length-append, append-nil}
 use Rattle.std.specs.Prelude.{if◌then◌else◌, option_map, IfSome, Option, Some, None}
@@ -52,7 +52,7 @@ module _ {T : Type 0} where
     seconds_of [] (v ∷ vs) wide also same = absurd (omega arith)
     seconds_of (u ∷ us) [] wide also same = absurd (omega arith)
 
-  -- the pixels of an even table, cut again
+  -- The pixels of a table with rows of equal length, cut into rows again.
   cut_even : (table : Table T) → IsEven table → cut_rows (width_of table) (height_of table) (row_major table) ≡ table
   cut_even table even = cut_again (width_of table) table table refl even
 
@@ -96,7 +96,7 @@ module _ {T : Type 0} where
     behind : (rest : List T) → drop (width_of y * height_of y) (row_major y ++ rest) ≡ rest
     behind rest = drop_at (row_major y) rest (width_of y * height_of y) (omega (arith, length-row_major (width_of y) y even))
 
-    -- what the pixels of a frame show is the frame
+    -- The tables of the pixels of a frame are the tables of the frame.
     pub shown_again : (u v : Option (Table T)) → IfSome u IsEven → IfSome v IsEven
         → option_map size_of u ≡ option_map size_of v
         → tables_by_turns (begins_with_v layout) (sizes_of (made y u v)) (semi_planar_pixels layout (made y u v)) ≡ made y u v
@@ -121,7 +121,7 @@ module _ {T : Type 0} where
     shown_again None (Some v) even_u even_v same = cc
     shown_again (Some u) None even_u even_v same = cc
 
-    -- and how many bytes it has
+    -- The number of bytes of the frame.
     pub as_many_bytes : (form : PixelForm T) (u v : Option (Table T)) → IfSome u IsEven → IfSome v IsEven
         → option_map size_of u ≡ option_map size_of v
         → length (semi_planar_bytes form layout (made y u v)) ≡ byte_count form.size (sizes_of (made y u v))

@@ -1,4 +1,4 @@
--- One more number was told.
+-- One more number was reported.
 use Rattle.std.proofs.Common.{ℕ, ◌+◌, add-one, subst, sym}
 use Rattle.v_frame_streams.specs.Telling.{TellsUpTo}
 

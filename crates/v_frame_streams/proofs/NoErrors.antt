@@ -1,4 +1,4 @@
--- Tables of one size are the same exactly where the sum of their squared errors is 0.
+-- Tables of the same size are equal exactly if the sum of their squared errors is 0.
 use Rattle.std.proofs.Common.{ℕ, zero, suc, ◌≡◌, ◌*◌, All, List, [], ◌∷◌, length, refl, sym, ◌∙◌, ap, arith, subst}
 use Rattle.std.specs.Prelude.{◌↔◌, sum_by, zip}
 use Rattle.std.specs.Int.{abs_diff}

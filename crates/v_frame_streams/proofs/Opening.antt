@@ -1,5 +1,5 @@
--- A stream is not opened where its header line is not read, and a frame is not read where its line is
--- not.
+-- A stream is not opened if its header line cannot be read, and a frame is not read if its line
+-- cannot be read.
 use Rattle.std.proofs.Common.{List, ℕ, Option, refl, subst, sym}
 use Rattle.v_frame_planar.specs.Counted.{Watched}
 use Rattle.v_frame_y4m.specs.Lax.{MayStopInLaxFrameLine, MayStopInLaxHeader}

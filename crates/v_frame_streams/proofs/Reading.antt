@@ -1,4 +1,4 @@
--- One more frame of a stream, and the end of it.
+-- One more frame of a stream, and the end of the stream.
 use Rattle.std.proofs.Common.{ℕ, ◌≡◌, ◌+◌, List, [], ◌∷◌, ◌++◌, flat_map, length, Option, refl, sym, ◌∙◌, ap, subst, arith}
 use Rattle.std.proofs.Common.{append-nil, length-append, inl, inr, ◌≤◌}
 use Rattle.std.proofs.lemmas.List.Elements.{All-push}
@@ -16,13 +16,13 @@ use Rattle.v_frame_streams.specs.Pictures.{ReadsTables, Sizes}
 use Rattle.v_frame_streams.specs.declared.stream.Container.TheVariants.{Y4m, Raw}
 use Rattle.v_frame_streams.specs.declared.stream.Container.{Container}
 
--- the bytes of one more frame
+-- The bytes of one more frame.
 joined : (bytes : Framed → List ℕ) (frames : List Framed) (frame : Framed)
     → flat_map bytes frames ++ bytes frame ≡ flat_map bytes (frames ++ frame ∷ [])
 joined bytes frames frame = sym (flat_map-append bytes frames (frame ∷ []) ∙ ap
     (λ (b : List ℕ). flat_map bytes frames ++ b) (append-nil (bytes frame)))
 
--- the front of a frame and what is left of it
+-- The front of a frame, and the rest of it.
 module _ (count : ℕ) (left mid left' : Option (List ℕ)) (front rest : List ℕ) (long : length front + length rest ≡ count)
     (read : Consumes mid left' rest) where
   of_parts : (from : Container) (begun : ReadsNext left mid from front true)
@@ -41,7 +41,8 @@ module _ (count : ℕ) (left mid left' : Option (List ℕ)) (front rest : List �
   whole_of_parts from begun =
       let whole = of_parts from begun in ((begun.0, front ++ rest), whole.0, whole.1)
 
-  -- the same, written as it is: the line in front of it, its front and what is left
+  -- The front of a frame and its rest, written unchanged: the line in front of it, the front and
+  -- the rest.
   pub moved_of_parts : (from to : Container) (has began now has' : Option (List ℕ)) → ReadsNext left mid from front true
       → Appends has began (frame_line to) → Appends began now front → Appends now has' rest
       → MovesNext from count left left' has has' to true
@@ -54,7 +55,7 @@ module _ (count : ℕ) (left mid left' : Option (List ℕ)) (front rest : List �
             (Appends-trans has now has' _ _ (Appends-trans has began now _ _ line sent) also),
       )
 
--- a frame that shows tables was read whole
+-- A frame with these tables was read whole.
 pub whole_of_tables : {T : Type 0} (form : PixelForm T) (from : Container) (count : ℕ) (layout : Option SemiPlanarFormat) (sizes : Sizes)
     (left left' : Option (List ℕ)) (bytes : List ℕ) (tables : Tables T) (more : Bool)
     → ReadsTables form from count layout sizes left left' bytes tables more → ReadsWhole left left' from count more

@@ -1,4 +1,4 @@
--- Chroma of one format beside that of another one, at the sizes that cover luma.
+-- Chroma of one format and of another one, at the sizes that cover luma.
 use Rattle.std.proofs.Common.{ℕ, ◌≡◌, ◌+◌, ◌/◌, refl, arith}
 use Rattle.std.specs.Int.{div_ceil}
 use Rattle.v_frame.specs.Prelude.{ChromaSubsampling, Yuv420, Yuv422, Yuv411, Yuv444, Monochrome}

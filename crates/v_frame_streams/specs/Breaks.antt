@@ -1,21 +1,22 @@
--- How far a copy came that gave up.
+-- The progress of a copy that failed.
 use Rattle.std.specs.Prelude.{ℕ, ◌≡◌, ◌+◌, ◌-◌, ◌≤◌, ◌⊎◌, length, min, List, Option}
 use Rattle.v_frame_streams.specs.Streams.{most_frames, Framed, ReadsFrames}
 use Rattle.v_frame_streams.specs.declared.sink.Sink.{Sink}
 use Rattle.v_frame_streams.specs.declared.source.Source.{Source}
 use Rattle.v_frame_streams.specs.declared.stream.Container.{Container}
 
--- how many frames were read of a stream, and how many were written
+-- The number of frames read of a stream, and the number of frames written.
 abbrev pub counts_of : {R W : Type 0} → Source R → Sink W → ℕ × ℕ
 counts_of source sink = (source.frames, sink.frames)
 
--- a count behind so many more frames, which stays at its end
+-- The counter `after` is `more` above the counter `begun`, unless it saturates at `most_frames`. If
+-- `more` is 0, the counter is unchanged.
 abbrev pub IsCountBehind : ℕ → ℕ → ℕ → Type 0
 IsCountBehind begun more after =
     (after ≡ min (begun + more) most_frames) ⊎ ((more ≡ 0) × (after ≡ begun))
 
--- These frames were read whole, no more than asked for, and counted. Of those behind the ones that
--- are passed over each was counted as written, or each but the last one.
+-- A copy that failed has read `frames` whole and counted them. There are no more than requested.
+-- After the skipped frames, it counted each frame as written, except perhaps the last one.
 pub record BreaksCopy (from : Container) (count : ℕ) (left : Option (List ℕ)) (skip most : ℕ)
     (begun after : ℕ × ℕ) : Type 0 where
   pub frames : List Framed

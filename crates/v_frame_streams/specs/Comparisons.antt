@@ -1,4 +1,4 @@
--- Two streams, compared as far as both go.
+-- The comparison of two streams, up to the end of the shorter one.
 use Rattle.std.specs.Prelude.{ℕ, ◌≡◌, ◌+◌, ◌↔◌, ◌⊎◌, All, Bool, false, List, [], ◌∷◌, ◌++◌, fold, length, map}
 use Rattle.std.specs.Prelude.{Option, Some, None, IfSome, IsNone, unwrap_or}
 use Rattle.v_frame.specs.Prelude.{PixelForm, Tables}
@@ -14,12 +14,12 @@ use Rattle.v_frame_streams.specs.declared.comparison.Comparison.{Comparison}
 use Rattle.v_frame_formats.specs.declared.difference.PixelDifference.{PixelDifference}
 use Rattle.v_frame_formats.specs.declared.sums.PlaneSums.{PlaneSums}
 
--- what a frame of one stream shows, beside the frame of the other at the same number
+-- The tables of two frames, one of each stream, at the same position.
 abbrev pub Pair : Type 0 → Type 0
 Pair T = Tables T × Tables T
 
 module _ {T : Type 0} (form : PixelForm T) where
-  -- the sums of the squared errors of two frames, plane by plane
+  -- The sums of the squared errors of two frames, one sum for each plane.
   abbrev pub errors_between : Pair T → PlaneSums
   errors_between pair =
       record {
@@ -28,20 +28,19 @@ module _ {T : Type 0} (form : PixelForm T) where
         v = chroma_errors form.value pair.0.v pair.1.v;
       }
 
-  -- those of all pairs of frames, added up
+  -- The sums of the squared errors of all pairs of frames.
   abbrev pub errors_of_all : Sizes → List (Pair T) → PlaneSums
   errors_of_all size pairs =
       fold (λ sums pair. added sums (errors_between pair)) (no_errors size) pairs
 
-  -- an observer took each pair of frames with the sums of its squared errors, one after the other
+  -- An observer received each pair of frames in order, with the sums of its squared errors.
   abbrev pub TakesEach : {A : Type 0} → (A → A → Tables T → Tables T → PlaneSums → Type 0)
       → List (Pair T) → A → A → Type 0
   TakesEach takes [] old new = new ≡ old
   TakesEach {A} takes (pair ∷ pairs) old new =
       (mid : A) × takes old mid pair.0 pair.1 (errors_between pair) × TakesEach takes pairs mid new
 
-  -- the frames in front of one pair show the same, as many as reported, and this pair differs first
-  -- so
+  -- The first `before` pairs of frames are equal, and the next pair differs first at `found`.
   pub record DiffersAfter (pairs : List (Pair T)) (before : ℕ) (found : PixelDifference)
       : Type 0 where
     pub earlier : List (Pair T)
@@ -52,13 +51,13 @@ module _ {T : Type 0} (form : PixelForm T) where
     pub same : All (λ pair. pair.0 ≡ pair.1) earlier
     pub differs : FramesDifferFirst form.value pair.0 pair.1 found
 
-  -- the first pixel that differs with the number of frames before its own; all show the same where
-  -- there is none
+  -- The result is the first pixel that differs, with the number of pairs before its own. Without a
+  -- result, the frames of each pair are equal.
   abbrev pub IsDifference : List (Pair T) → Option (ℕ × PixelDifference) → Type 0
   IsDifference pairs None = All (λ pair. pair.0 ≡ pair.1) pairs
   IsDifference pairs (Some found) = DiffersAfter pairs found.0 found.1
 
-  -- what was found with one more pair of frames than before
+  -- The result `now` is the earlier result `found`, extended by one pair of frames.
   pub record Adds (found now : Comparison) (pair : Pair T) : Type 0 where
     pub frames : now.frames ≡ found.frames + 1
     pub errors : now.errors ≡ added found.errors (errors_between pair)
@@ -68,13 +67,14 @@ module _ {T : Type 0} (form : PixelForm T) where
         → (f.0 ≡ found.frames) × FramesDifferFirst form.value pair.0 pair.1 f.1)
 
   module _ (size : Sizes) where
-    -- what two frames show, of which these are the bytes, each in its layout
+    -- The tables of two frames with these bytes, each in its own layout.
     abbrev pub shown : Option SemiPlanarFormat → Option SemiPlanarFormat → Framed × Framed → Pair T
     shown one other frames =
         (tables_of_bytes form one size frames.0.1, tables_of_bytes form other size frames.1.1)
 
     module _ (one other : Stream) (left left' right right' : Option (List ℕ)) where
-      -- as many frames of each stream were read as counted, and what was found is what these show
+      -- The counted number of frames of each stream was read, and the result describes their
+      -- tables.
       pub record ComparesFrames (found : Comparison) : Type 0 where
         pub frames : List (Framed × Framed)
         pub counted : length frames ≡ found.frames
@@ -84,9 +84,8 @@ module _ {T : Type 0} (form : PixelForm T) where
         pub second : ReadsFrames right right' other.container other.frame_len
             (map (λ f. f.1) frames)
 
-    -- The streams were compared as far as both go, and no further than asked for. Where they were
-    -- not compared so far, one of them or both came to the end, and the longer one had one more
-    -- frame read.
+    -- At most `most` pairs of frames were compared. If there were fewer, at least one of the
+    -- streams ended, and one more frame of the longer stream was read.
     pub record Compares (one other : Stream) (left left' right right' : Option (List ℕ)) (most : ℕ)
         (found : Comparison) : Type 0 where
       pub mid : Option (List ℕ)
@@ -97,7 +96,8 @@ module _ {T : Type 0} (form : PixelForm T) where
           × ReadsWhole far right' other.container other.frame_len also
           × (found.longer ≡ longer_of more also) × ((more ≡ false) ⊎ (also ≡ false)))
 
-    -- Of each stream frames were passed over first, as many as asked for or all that it has.
+    -- Before the comparison, frames of each stream were skipped: the requested number, or all
+    -- frames of the stream.
     pub record ComparesFrom (one other : Stream) (left left' right right' : Option (List ℕ))
         (options : CompareOptions)
         (found : Comparison) : Type 0 where
@@ -111,7 +111,7 @@ module _ {T : Type 0} (form : PixelForm T) where
       pub compared : Compares one other start left' begin right'
           (unwrap_or options.count most_frames) found
 
-    -- the same, and an observer took each two frames that were compared
+    -- The frames were compared, and an observer received each pair.
     module _ {A : Type 0} (takes : A → A → Tables T → Tables T → PlaneSums → Type 0) (old new : A)
         (one other : Stream) (left left' right right' : Option (List ℕ)) where
       abbrev pub WatchesFrames : Comparison → Type 0

@@ -1,4 +1,4 @@
--- What a copy writes.
+-- The output of a copy.
 use Rattle.std.specs.Prelude.{ℕ, ◌≡◌, ◌+◌, ◌<◌, ◌≤◌, ◌⊎◌, ◌++◌, ◌&&◌, if◌then◌else◌, Bool, true, false, List}
 use Rattle.std.specs.Prelude.{[], ◌∷◌, codes, drop, filter, flat_map, is_none, length, nat_eq, not, refl, take, Option, Some, None, unwrap_or}
 use Rattle.std.specs.List.{starts_with}
@@ -21,25 +21,25 @@ use Rattle.v_frame_formats.specs.declared.rectangle.Rectangle.{Rectangle}
 use Rattle.v_frame_streams.specs.declared.options.CopyOptions.{CopyOptions}
 use Rattle.v_frame_streams.specs.declared.stream.Container.{Container}
 
--- the most frames that a copy writes
+-- The largest number of frames that a copy writes.
 abbrev pub limit_of : CopyOptions → ℕ
 limit_of options = unwrap_or options.count most_frames
 
--- the frames of a stream that a copy writes
+-- The frames of the source that a copy writes.
 abbrev pub kept : CopyOptions → List Framed → List Framed
 kept options frames = take (limit_of options) (drop options.skip frames)
 
--- the one that is asked for, or else the one that is there
+-- The requested value, or the value of the source if none is requested.
 abbrev pub or_else : {A : Type 0} → Option A → Option A → Option A
 or_else None there = there
 or_else (Some asked) there = Some asked
 
--- what is taken of each picture
+-- The rectangle of each picture that a copy keeps.
 abbrev pub taken : CopyOptions → StreamHeader → Rectangle
 taken options header =
     unwrap_or options.crop (record { x = 0; y = 0; width = header.width; height = header.height })
 
--- what is made of each frame, where something is
+-- The edit of each frame.
 abbrev pub edit_of : CopyOptions → StreamHeader → Edit
 edit_of options header =
     record {
@@ -48,11 +48,11 @@ edit_of options header =
       half = options.half;
     }
 
--- states the chroma format once more, as ffmpeg's `XYSCSS=420JPEG` does
+-- The extension states the chroma format, such as `XYSCSS=420JPEG`, which ffmpeg writes.
 abbrev pub states_format : List ℕ → Bool
 states_format extension = starts_with nat_eq extension (codes "YSCSS=")
 
--- the extensions that hold of every chroma format
+-- The extensions that do not state the chroma format.
 abbrev pub without_format : List (List ℕ) → List (List ℕ)
 without_format extensions = filter (λ extension. not (states_format extension)) extensions
 
@@ -60,13 +60,13 @@ range_stays : without_format (codes "YSCSS=420JPEG" ∷ codes "COLORRANGE=FULL" 
     ≡ codes "COLORRANGE=FULL" ∷ []
 range_stays = refl
 
--- the extensions that hold of what is written
+-- The extensions in the header of the output.
 abbrev pub copied_extensions : CopyOptions → StreamHeader → List (List ℕ)
 copied_extensions options header =
     if is_same_color (color_in options.format header.color) header.color
     then header.extensions else without_format header.extensions
 
--- the header that is written
+-- The header of the output.
 abbrev pub copied_header : CopyOptions → StreamHeader → StreamHeader
 copied_header options header =
     record {
@@ -79,14 +79,15 @@ copied_header options header =
       extensions = copied_extensions options header;
     }
 
--- whether a copy writes the frames of a stream, which have this layout, as they are
+-- A copy writes the frames of the source, which have this layout, unchanged.
 abbrev pub is_plain : Container → CopyOptions → StreamHeader → Option SemiPlanarFormat → Bool
 is_plain to options header layout =
     is_none options.crop && not options.half
     && is_same_layout (layout_to to options.format layout) layout
     && is_same_format (format_in header.color) (format_in (copied_header options header).color)
 
--- what is made of each frame of a stream, where something is, and the layout that is written
+-- The steps from each frame of the source to the output, if frames are edited. `layout` is the
+-- layout of the output.
 abbrev pub plan_for : CopyOptions → StreamHeader → Option SemiPlanarFormat → Plan
 plan_for options header layout =
     let written = copied_header options header in
@@ -100,14 +101,15 @@ plan_for options header layout =
       layout = layout;
     }
 
--- the bytes that are written of what is made of a frame, of which these are the bytes in a layout
+-- The bytes written for an edited frame. `bytes` are its bytes in the source, in this layout.
 abbrev pub made_bytes : {S T : Type 0} → PixelForm S → PixelForm T → Container → CopyOptions
     → StreamHeader → Option SemiPlanarFormat → List ℕ → List ℕ
 made_bytes form other to options header layout bytes =
     planned_bytes form other (plan_for options header (layout_to to options.format layout))
     (tables_of_bytes form layout (sizes_in header) bytes)
 
--- the bytes that are written of a frame, of which these are the bytes in a layout
+-- The bytes written for a frame, edited or not. `bytes` are its bytes in the source, in this
+-- layout.
 abbrev pub copied_bytes : Container → CopyOptions → StreamHeader → Option SemiPlanarFormat
     → List ℕ → List ℕ
 copied_bytes to options header layout bytes =
@@ -116,17 +118,17 @@ copied_bytes to options header layout bytes =
     if is_plain to options header layout then bytes
     else made_bytes form other to options header layout bytes
 
--- the bytes of a frame that is written as it is
+-- The bytes of a frame that is written unchanged.
 abbrev pub same_bytes : List ℕ → List ℕ
 same_bytes bytes = bytes
 
--- the frames that are written, each made of one that was read
+-- The written frames, each made from a frame that was read.
 abbrev pub made_stream : Container → (List ℕ → List ℕ) → List Framed → List ℕ
 made_stream to made frames = flat_map (λ frame. written_bytes to (made frame.1)) frames
 
 module _ (from : Container) (count : ℕ) (left left' has has' : Option (List ℕ)) where
-  -- So many frames were read, none more than asked for, and what is made of each was written. Fewer
-  -- were only where the stream came to its end.
+  -- `found` frames were read, at most `most`, and the frame made from each was written. If there
+  -- were fewer than `most`, the source ended.
   pub record Carries (to : Container) (made : List ℕ → List ℕ) (most found : ℕ) : Type 0 where
     pub frames : List Framed
     pub read : ReadsFrames left left' from count frames
@@ -135,15 +137,15 @@ module _ (from : Container) (count : ℕ) (left left' has has' : Option (List �
     pub ends : (found ≡ most) ⊎ IsAtEnd left'
     pub written : Appends has has' (made_stream to made frames)
 
-  -- a whole frame was read and written as it is, or the stream stood at its end before it
+  -- A whole frame was read and written unchanged, or the source was at its end.
   abbrev pub MovesNext : Container → Bool → Type 0
   MovesNext to true =
       (frame : Framed) × IsFrame from count frame × Consumes left left' (framed_bytes from frame)
       × Appends has has' (written_bytes to frame.1)
   MovesNext to false = Consumes left left' [] × IsAtEnd left' × Appends has has' []
 
-  -- The stream was copied: these are the frames that were read, and no more than asked for, and
-  -- what is made of those that are kept was written after this header.
+  -- The source was copied: `frames` are the frames read, and no more than requested. The header was
+  -- written, followed by the frames made from those that are kept.
   pub record CopiesBy (to : Container) (options : CopyOptions) (header : StreamHeader)
       (made : List ℕ → List ℕ) (found : ℕ) : Type 0 where
     pub frames : List Framed
@@ -153,19 +155,19 @@ module _ (from : Container) (count : ℕ) (left left' has has' : Option (List �
     pub written : Appends has has'
         (header_bytes to header ++ made_stream to made (kept options frames))
 
-  -- the same with the header and the frames that the options say
+  -- The source was copied, with the header and the edits that the options determine.
   abbrev pub Copies : Container → CopyOptions → StreamHeader → Option SemiPlanarFormat → ℕ → Type 0
   Copies to options header layout found =
       CopiesBy to options (copied_header options header) (copied_bytes to options header layout)
       found
 
--- so many bytes were read, and written as they are
+-- `count` bytes were read and written unchanged.
 abbrev pub MovesSome : Option (List ℕ) → Option (List ℕ) → Option (List ℕ) → Option (List ℕ) → ℕ
     → Type 0
 MovesSome left left' has has' count =
     (bytes : List ℕ) × Consumes left left' bytes × Appends has has' bytes × (length bytes ≡ count)
 
--- so many frames were passed over, or fewer and the stream came to its end
+-- `skip` frames were skipped, or fewer, and the source ended.
 abbrev pub Begins : Container → ℕ → Option (List ℕ) → Option (List ℕ) → ℕ → Bool → Type 0
 Begins from count left left' skip true = CountsFrames left left' from count skip skip
 Begins from count left left' skip false =

@@ -1,4 +1,4 @@
--- A rectangle cut out of pictures.
+-- Crops of pictures.
 use Rattle.std.specs.Prelude.{ℕ, ◌≡◌, ◌+◌, ◌%◌, ◌<◌, ◌≤◌, ◌⊎◌, Option, option_map, IfSome}
 use Rattle.v_frame.specs.Prelude.{geometry_of, rectangle, ChromaSubsampling, Frame, Geometry, Raster, Table, Tables}
 use Rattle.v_frame_planar.specs.Video.{ratio_or_one}
@@ -10,27 +10,28 @@ use Rattle.v_frame_streams.specs.Edits.{beside}
 use Rattle.v_frame_streams.specs.declared.error.Problem.{Problem}
 use Rattle.v_frame_streams.specs.declared.error.Problem.TheVariants.{EmptyCrop, CropOutside, CropMisaligned, OutOfMemory}
 
--- a rectangle is not empty
+-- A rectangle is not empty.
 abbrev pub HasPixels : Rectangle → Type 0
 HasPixels part = (0 < part.width) × (0 < part.height)
 
--- it lies in a plane of a size
+-- A rectangle lies inside a plane of this size.
 abbrev pub LiesIn : Rectangle → ℕ × ℕ → Type 0
 LiesIn part size = (part.x + part.width ≤ size.0) × (part.y + part.height ≤ size.1)
 
--- it begins where a chroma pixel does
+-- A rectangle begins at the edge of a chroma pixel.
 abbrev pub IsAligned : Rectangle → ChromaSubsampling → Type 0
 IsAligned part subsampling =
     let ratio = ratio_or_one subsampling in
     (part.x % ratio.0 ≡ 0) × (part.y % ratio.1 ≡ 0)
 
--- a rectangle can be cut out of pictures of a size and a chroma subsampling
+-- A rectangle can be cropped from pictures with this size and this chroma subsampling.
 pub record IsPart (part : Rectangle) (size : ℕ × ℕ) (subsampling : ChromaSubsampling) : Type 0 where
   pub some : HasPixels part
   pub inside : LiesIn part size
   pub aligned : IsAligned part subsampling
 
--- why a rectangle can't be cut out of such pictures: the first reason that holds
+-- The reason why a rectangle cannot be cropped from such pictures. The first reason that applies is
+-- reported.
 abbrev pub RefusesPart : Rectangle → ℕ × ℕ → ChromaSubsampling → Problem → Type 0
 RefusesPart part size subsampling EmptyCrop = ¬ (HasPixels part)
 RefusesPart part size subsampling CropOutside = HasPixels part × ¬ (LiesIn part size)
@@ -39,16 +40,17 @@ RefusesPart part size subsampling (CropMisaligned columns rows) =
     × (columns ≡ (ratio_or_one subsampling).0) × (rows ≡ (ratio_or_one subsampling).1)
 RefusesPart part size subsampling _ = ⊥
 
--- a rectangle can be cut out of the pictures of a stream
+-- A rectangle can be cropped from the pictures of a stream.
 abbrev pub IsTakable : Rectangle → StreamHeader → Type 0
 IsTakable part header = IsPart part (header.width, header.height) (subsampling_of header.color)
 
--- why a rectangle can't be cut out of the pictures of a stream: the first reason that holds
+-- The reason why a rectangle cannot be cropped from the pictures of a stream. The first reason that
+-- applies is reported.
 abbrev pub RefusesCrop : Rectangle → StreamHeader → Problem → Type 0
 RefusesCrop part header =
     RefusesPart part (header.width, header.height) (subsampling_of header.color)
 
--- the chroma planes that are there hold what stands beside it
+-- Each chroma plane that is present contains the chroma of the rectangle.
 abbrev pub HasChromaBeside : Rectangle → ChromaSubsampling → Option (ℕ × ℕ) × Option (ℕ × ℕ)
     → Type 0
 HasChromaBeside part subsampling sizes =
@@ -56,14 +58,15 @@ HasChromaBeside part subsampling sizes =
     IfSome sizes.0 (LiesIn chroma) × IfSome sizes.1 (LiesIn chroma)
 
 module _ {T : Type 0} where
-  -- a rectangle can be cut out of a frame: its chroma planes, where they are there, hold what
-  -- stands beside it
+  -- A rectangle can be cropped from a frame, and each chroma plane that is present contains its
+  -- chroma.
   abbrev pub HasPart : Rectangle → Frame T → Type 0
   HasPart part frame =
       let sizes = sizes_laid_out frame in
       IsPart part sizes.0 frame.subsampling × HasChromaBeside part frame.subsampling sizes.1
 
-  -- why a rectangle was not cut out of a frame: the first reason that holds
+  -- The reason why a rectangle was not cropped from a frame. The first reason that applies is
+  -- reported.
   abbrev pub RefusesFrame : Rectangle → Frame T → Problem → Type 0
   RefusesFrame part frame OutOfMemory = HasPart part frame
   RefusesFrame part frame CropOutside =
@@ -73,11 +76,11 @@ module _ {T : Type 0} where
   RefusesFrame part frame problem =
       RefusesPart part (sizes_laid_out frame).0 frame.subsampling problem
 
-  -- the rectangle of a plane
+  -- The rectangle of a plane.
   abbrev pub cut : Rectangle → Table T → Table T
   cut part rows = rectangle part.x part.y part.width part.height rows
 
-  -- the rectangle of a picture: of luma, and of chroma what stands beside it
+  -- The rectangle of the luma plane, and its chroma in the chroma planes.
   abbrev pub cropped : ChromaSubsampling → Rectangle → Tables T → Tables T
   cropped subsampling part tables =
       let chroma = beside (ratio_or_one subsampling) part in
@@ -87,7 +90,7 @@ module _ {T : Type 0} where
         v = option_map (cut chroma) tables.v;
       }
 
--- the geometry of a plane that shows a rectangle of another, without a border
+-- The geometry of a plane without a border that shows a rectangle of another plane.
 abbrev pub unpadded_part : Rectangle → Geometry → Geometry
 unpadded_part part g = geometry_of part.width part.height 0 0 0 0 g.subsampling_x g.subsampling_y
 
@@ -98,7 +101,7 @@ module _ {T : Type 0} where
   abbrev pub unpadded_geometry : Rectangle → Raster T → Geometry
   unpadded_geometry part plane = unpadded_part part plane.geometry
 
-  -- the planes of a frame have no border, and are as large as a rectangle of another frame
+  -- The planes of the frame `made` have no border, and the sizes of a rectangle of `frame`.
   pub record IsUnpadded (part : Rectangle) (frame made : Frame T) : Type 0 where
     pub y : made.y_plane.geometry ≡ unpadded_geometry part frame.y_plane
     pub u : option_map geometry_laid_out made.u_plane

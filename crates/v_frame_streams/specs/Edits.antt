@@ -1,4 +1,4 @@
--- Frames of which a rectangle is taken, as large as it is or at half the size.
+-- Crops of frames, at full or half size.
 use Rattle.std.specs.Prelude.{ℕ, ◌≡◌, ◌+◌, ◌/◌, ◌<◌, ◌≤◌, if◌then◌else◌, ⊤, Bool, Option, Some, None, option_map}
 use Rattle.std.specs.Int.{div_ceil}
 use Rattle.v_frame.specs.Prelude.{PixelForm, Table, Tables, rectangle}
@@ -8,7 +8,7 @@ use Rattle.v_frame_streams.specs.Pictures.{Sizes}
 use Rattle.v_frame_formats.specs.declared.rectangle.Rectangle.{Rectangle}
 use Rattle.v_frame_streams.specs.declared.edit.Edit.{Edit}
 
--- the chroma pixels beside a rectangle of luma, with those of which only a part stands beside it
+-- The chroma pixels of a rectangle of luma, including those of which only a part belongs to it.
 abbrev pub beside : ℕ × ℕ → Rectangle → Rectangle
 beside ratio part =
     record {
@@ -18,11 +18,12 @@ beside ratio part =
       height = div_ceil part.height ratio.1;
     }
 
--- half of a number of columns or rows, rounded up, where that is wanted
+-- The number of columns or rows: half of it, rounded up, if `half` is set.
 abbrev pub halved_size : Bool → ℕ → ℕ
 halved_size half size = if half then (size + 1) / 2 else size
 
--- a rectangle lies in a plane of one size, is not empty, and makes a plane of another
+-- The rectangle is not empty and lies inside a plane of size `source`. Cropped, and halved if
+-- `half` is set, it has the size `target`.
 pub record PlaneFits (half : Bool) (part : Rectangle) (source target : ℕ × ℕ) : Type 0 where
   pub some : (0 < part.width) × (0 < part.height)
   pub across : part.x + part.width ≤ source.0
@@ -30,32 +31,33 @@ pub record PlaneFits (half : Bool) (part : Rectangle) (source target : ℕ × �
   pub wide : target.0 ≡ halved_size half part.width
   pub high : target.1 ≡ halved_size half part.height
 
--- the same of chroma planes, which are both there or both absent
+-- The rectangle fits the sizes of two chroma planes. Both are present or both absent.
 abbrev pub ChromaFits : Bool → Rectangle → Option (ℕ × ℕ) → Option (ℕ × ℕ) → Type 0
 ChromaFits half part (Some source) (Some target) = PlaneFits half part source target
 ChromaFits half part None None = ⊤
 ChromaFits half part _ _ = ⊥
 
--- the same of all planes of two frames
+-- The edit fits the sizes of all planes of two frames.
 pub record EditFits (edit : Edit) (source target : Sizes) : Type 0 where
   pub y : PlaneFits edit.half edit.luma source.0 target.0
   pub u : ChromaFits edit.half edit.chroma source.1.0 target.1.0
   pub v : ChromaFits edit.half edit.chroma source.1.1 target.1.1
 
 module _ {T : Type 0} (form : PixelForm T) where
-  -- a table at half the size, rounded up: each pixel is the mean of two by two, rounded to the
-  -- nearest value and upwards at a half; the last column and row are repeated where they are odd
+  -- A table at half the size, rounded up. Each pixel is the mean of two by two pixels, rounded to
+  -- the nearest integer, halves upwards. If the width or the height is odd, the last column or row
+  -- is repeated.
   abbrev pub halved_table : ℕ → ℕ → Table T → Table T
   halved_table width height rows =
       scaled form form.pixel_of Half Half ((width + 1) / 2) ((height + 1) / 2) rows
 
-  -- what is made of a plane
+  -- The edited table of a plane.
   abbrev pub edited_table : Bool → Rectangle → Table T → Table T
   edited_table half part rows =
       let taken = rectangle part.x part.y part.width part.height rows in
       if half then halved_table part.width part.height taken else taken
 
-  -- what is made of a frame
+  -- The edited tables of a frame.
   abbrev pub edited : Edit → Tables T → Tables T
   edited edit tables =
       record {

@@ -1,5 +1,5 @@
--- Why a stream is not opened, why a frame of it is not read, what a picture of it asks for, and
--- which errors have a cause.
+-- The errors of opening and reading a stream, the request for a picture of it, and the system
+-- errors behind them.
 use Rattle.std.specs.Prelude.{ℕ, ◌≡◌, ◌+◌, ◌≤◌, ◌<◌, Bool, List, [], ◌∷◌, ◌++◌, length, min, Option, None}
 use Rattle.std.specs.Io.KnownBytes.{Consumes, IsAtEnd}
 use Rattle.std.specs.declared.io.ErrorKind.{ErrorKind}
@@ -25,30 +25,31 @@ use Rattle.v_frame_streams.specs.Streams.{framed_bytes, most_frames, Framed, Has
 use Rattle.v_frame_streams.specs.declared.stream.Container.{Container}
 use Rattle.v_frame_streams.specs.declared.stream.Container.TheVariants.{Raw, Y4m}
 
--- what the system reported last, where the problem is that a read or a write failed
+-- The last error that the system reported, if the problem is a failed read or write.
 abbrev pub cause_of : Problem → Option ErrorKind → Option ErrorKind
 cause_of (Stream (Planar Read)) last = last
 cause_of (Stream (Planar Write)) last = last
 cause_of _ last = None
 
--- the error comes in front of the first frame of a stream, and has no cause but a failed read
+-- The error is at the first frame of a stream. It has no system error behind it, unless a read
+-- failed.
 pub record IsAtStart (which : Place) (error : StreamError) : Type 0 where
   pub place : error.place ≡ which
   pub frames : error.frames ≡ 0
   pub cause : error.cause ≡ cause_of error.problem error.cause
 
--- what a builder would be asked for, for a picture of a size and a color
+-- The request to a frame builder for a picture of this size and color.
 abbrev pub picture_request : ℕ → ℕ → Color → FrameRequest
 picture_request width height color =
     video_request width height (subsampling_of color) (depth_of color) 0
 
--- frames like these have a byte, and no more than can be addressed
+-- A frame has at least one byte, and no more than `usize` can count.
 pub record HasLength (header : StreamHeader) : Type 0 where
   pub some : 0 < frame_byte_count header
   pub most : frame_byte_count header ≤ usize_max
 
 module _ (start left : Option (List ℕ)) where
-  -- a header line, or one that stands for it, was not read from what begins with these bytes
+  -- The header line, strict or lax, could not be read. `start` are the bytes of the stream.
   abbrev pub StopsInHeaderLine : Y4mError → Type 0
   StopsInHeaderLine (Header error) =
       (line : List ℕ) × IsRefusedFor (strict_line line) error × IsLine line
@@ -62,7 +63,7 @@ module _ (start left : Option (List ℕ)) where
   StopsInHeaderLine NoFrame = ⊥
   StopsInHeaderLine (Planar error) = error ≡ Read
 
--- a stream that begins with these bytes is not opened
+-- A stream that begins with the bytes `start` cannot be opened.
 abbrev pub StopsOpening : Option (List ℕ) → Problem → Type 0
 StopsOpening start (Stream error) =
     (left : Option (List ℕ)) × StopsInHeaderLine start left error
@@ -72,27 +73,27 @@ StopsOpening start TooLarge =
 StopsOpening start OutOfMemory = Unit {0}
 StopsOpening start _ = ⊥
 
--- what is left to be read of a stream: its bytes, where they are known, and how many reads have
--- failed so far
+-- The bytes of a stream that are still to be read, if they are known, and the number of reads that
+-- have failed so far.
 pub record Unread : Type 0 where
   pub bytes : Option (List ℕ)
   pub failures : ℕ
 
--- a read failed
+-- A read failed.
 abbrev pub FailsToRead : Unread → Unread → Problem → Type 0
 FailsToRead start left problem =
     (problem ≡ Stream (Planar Read)) × HasFailed start.failures left.failures
 
--- what follows after so many bytes of a frame of so many planar bytes was not read: the stream
--- ended inside it, and all that was left was found beside those bytes, or a read failed
+-- Some bytes of a frame of `count` bytes could not be read, after the first `before`. Either the
+-- stream ended inside the frame, and all bytes up to its end were read, or a read failed.
 abbrev pub StopsInside : ℕ → Unread → Unread → ℕ → Problem → Type 0
 StopsInside before start left count (Stream (Planar (Truncated expected found))) =
     (expected ≡ count) × (found < count) × (bytes : List ℕ) × (found ≡ before + length bytes)
     × Consumes start.bytes left.bytes bytes × IsAtEnd left.bytes
 StopsInside before start left count problem = FailsToRead start left problem
 
--- a frame was not read: the line in front of it, or one that stands for it, was not, or the stream
--- ended inside the frame, of which so many bytes were found, or a read failed
+-- A frame of `count` bytes could not be read: the line in front of it is wrong, or the stream ended
+-- inside the frame after `found` bytes, or a read failed.
 abbrev pub StopsFrame : Container → Unread → Unread → ℕ → Problem → Type 0
 StopsFrame from start left count (Stream LineTooLong) =
     (from ≡ Y4m) × StopsInHeaderLine start.bytes left.bytes LineTooLong
@@ -110,9 +111,8 @@ StopsFrame from start left count (Stream (Planar (Truncated expected found))) =
     × Consumes start.bytes left.bytes (framed_bytes from frame) × IsAtEnd left.bytes
 StopsFrame from start left count problem = FailsToRead start left problem
 
--- Frames of so many planar bytes, fewer than were asked for, were read whole, without a failed
--- read, and counted beside those before them, and the next one was not read. The count stays at
--- its end.
+-- Fewer than `most` frames were read whole and counted, without a failed read, and the next frame
+-- could not be read. The counter goes from `before` to `after` and saturates.
 pub record StopsAtFrame (from : Container) (count : ℕ) (start left : Unread)
     (most before after : ℕ) (problem : Problem) : Type 0 where
   pub frames : List Framed

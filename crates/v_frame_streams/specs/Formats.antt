@@ -1,11 +1,11 @@
--- Whether the frames of two streams can be compared.
+-- Streams whose frames can be compared.
 use Rattle.std.specs.Prelude.{◌≡◌, ◌≢◌}
 use Rattle.v_frame_y4m.specs.Color.{depth_of, subsampling_of}
 use Rattle.v_frame_y4m.specs.declared.header.StreamHeader.{StreamHeader}
 use Rattle.v_frame_streams.specs.declared.error.Problem.{Problem}
 use Rattle.v_frame_streams.specs.declared.error.Problem.TheVariants.{OtherSize, OtherChroma, OtherDepth}
 
--- frames of one size, one chroma format and one bit depth
+-- The frames have the same size, the same chroma format and the same bit depth.
 pub record HaveOneFormat (first second : StreamHeader) : Type 0 where
   pub width : first.width ≡ second.width
   pub height : first.height ≡ second.height
@@ -15,7 +15,7 @@ pub record HaveOneFormat (first second : StreamHeader) : Type 0 where
 abbrev pub HaveOneSize : StreamHeader → StreamHeader → Type 0
 HaveOneSize first second = (first.width ≡ second.width) × (first.height ≡ second.height)
 
--- what differs: the first of size, chroma format and bit depth that does
+-- The first of size, chroma format and bit depth that differs.
 abbrev pub RefusesFormats : StreamHeader → StreamHeader → Problem → Type 0
 RefusesFormats first second OtherSize = ¬ (HaveOneSize first second)
 RefusesFormats first second OtherChroma =

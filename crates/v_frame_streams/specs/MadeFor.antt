@@ -9,8 +9,9 @@ use Rattle.v_frame_streams.specs.Pictures.{sizes_in}
 use Rattle.v_frame_streams.specs.declared.picture.Picture.{Picture}
 use Rattle.v_frame_streams.specs.declared.source.Source.{Source}
 
--- a picture has room for the bytes of each frame of a stream, its planes take just these, and its
--- frame has the sizes and the format that the header says, and pixels of as many bytes
+-- The picture fits the frames of a stream: its buffer has the length of a frame, its planes have
+-- that number of bytes, and its frame has the sizes and the format in the header and the right
+-- pixel type.
 pub record IsMadeFor {R T : Type 0} (form : PixelForm T) (source : Source R) (picture : Picture T)
     : Type 0 where
   pub room : length picture.bytes.items ≡ source.frame_len

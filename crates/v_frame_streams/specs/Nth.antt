@@ -1,4 +1,4 @@
--- One frame of a stream, behind others that are passed over.
+-- Reading one frame of a stream after skipping others.
 use Rattle.std.specs.Prelude.{ℕ, ◌≡◌, ◌+◌, ◌≤◌, ◌∷◌, ◌++◌, [], Bool, true, false, length, List, min, Option}
 use Rattle.std.specs.Io.KnownBytes.{IsAtEnd}
 use Rattle.v_frame.specs.Prelude.{PixelForm, Tables}
@@ -6,7 +6,8 @@ use Rattle.v_frame_streams.specs.Pictures.{sizes_in, tables_of_bytes}
 use Rattle.v_frame_streams.specs.Sources.{Stream}
 use Rattle.v_frame_streams.specs.Streams.{most_frames, Framed, ReadsFrames}
 
--- a stream has no more frames than so many, which were counted, and stands at its end
+-- The stream has at most `before` more frames. They were read and counted, and the stream is at its
+-- end.
 pub record EndsBefore (before : ℕ) (stream : Stream) (left left' : Option (List ℕ))
     (begun after : ℕ) : Type 0 where
   pub frames : List Framed
@@ -17,7 +18,7 @@ pub record EndsBefore (before : ℕ) (stream : Stream) (left left' : Option (Lis
 
 module _ {T : Type 0} (form : PixelForm T) (before : ℕ) (stream : Stream)
     (left left' : Option (List ℕ)) (tables : Tables T) where
-  -- so many frames were passed over, and the one behind them shows these tables
+  -- `before` frames were skipped, and the next frame has these tables.
   pub record ReadsBehind : Type 0 where
     pub frames : List Framed
     pub frame : Framed
@@ -25,9 +26,9 @@ module _ {T : Type 0} (form : PixelForm T) (before : ℕ) (stream : Stream)
     pub read : ReadsFrames left left' stream.container stream.frame_len (frames ++ frame ∷ [])
     pub shows : tables ≡ tables_of_bytes form stream.layout (sizes_in stream.header) frame.1
 
-  -- So many frames were passed over, and the one behind them has these bytes and shows these
-  -- tables. Or the stream has no more frames than those, and stands at its end. So many frames were
-  -- counted before and after, and the count stays at its end.
+  -- `before` frames were skipped, and the next frame has these bytes and these tables. Or the
+  -- stream has no frame after them and is at its end. The counter goes from `begun` to `after` and
+  -- saturates.
   abbrev pub ReadsNth : List ℕ → ℕ → ℕ → Bool → Type 0
   ReadsNth bytes begun after true =
       (read : ReadsBehind) × (read.frame.1 ≡ bytes)

@@ -1,4 +1,4 @@
--- What the bytes of a frame show.
+-- The tables of a frame, from its bytes.
 use Rattle.std.specs.Prelude.{ℕ, ◌≡◌, ◌*◌, ◌/◌, if◌then◌else◌, All, Bool, true, false, List, [], ◌∷◌, drop, length, take}
 use Rattle.std.specs.Prelude.{option_map, IfSome, Option, Some, None}
 use Rattle.std.specs.Io.KnownBytes.{Consumes, IsAtEnd}
@@ -13,28 +13,29 @@ use Rattle.v_frame_y4m.specs.declared.header.StreamHeader.{StreamHeader}
 use Rattle.v_frame_streams.specs.Streams.{framed_bytes, IsFrame}
 use Rattle.v_frame_streams.specs.declared.stream.Container.{Container}
 
--- the width and the height of each plane
+-- The width and the height of each plane.
 abbrev pub Sizes : Type 0
 Sizes = (ℕ × ℕ) × (Option (ℕ × ℕ) × Option (ℕ × ℕ))
 
--- those of the frames of a stream
+-- The sizes of the planes of the frames of a stream.
 abbrev pub sizes_in : StreamHeader → Sizes
 sizes_in header =
     let chroma = chroma_sizes_of (subsampling_of header.color) header.width header.height in
     ((header.width, header.height), (chroma, chroma))
 
 module _ {T : Type 0} where
-  -- every other item: the first one, the third one, and so on
+  -- Every other item of a list, beginning with the first.
   abbrev pub firsts : List T → List T
   firsts (first ∷ second ∷ rest) = first ∷ firsts rest
   firsts _ = []
 
-  -- the second one, the fourth one, and so on
+  -- Every other item of a list, beginning with the second.
   abbrev pub seconds : List T → List T
   seconds (first ∷ second ∷ rest) = second ∷ seconds rest
   seconds _ = []
 
-  -- the tables of a frame whose pixels stand so: luma, then U and V by turns, or V and U
+  -- The tables of a frame from a list of pixels: those of luma, followed by those of U and V,
+  -- interleaved.
   abbrev pub tables_by_turns : Bool → Sizes → List T → Tables T
   tables_by_turns v_first sizes pixels =
       let count = sizes.0.0 * sizes.0.1 in
@@ -47,7 +48,7 @@ module _ {T : Type 0} where
         v = option_map (λ size. cut_rows size.0 size.1 v) sizes.1.1;
       }
 
-  -- all rows are as long as the first one
+  -- All rows are as long as the first one.
   abbrev pub IsEven : Table T → Type 0
   IsEven table = All (λ row. length row ≡ width_of table) table
 
@@ -57,21 +58,20 @@ module _ {T : Type 0} where
     pub v : IfSome tables.v IsEven
 
 module _ {T : Type 0} (form : PixelForm T) where
-  -- the tables of a frame in a layout
+  -- The tables of a frame with these bytes in a semi-planar layout.
   abbrev pub tables_in_layout : SemiPlanarFormat → Sizes → List ℕ → Tables T
   tables_in_layout layout sizes bytes =
       tables_by_turns (begins_with_v layout) sizes
       (shown_pixels form (unused_bits layout) (length bytes / form.size) bytes)
 
-  -- the tables of a frame of these bytes: in a layout, or else planar
+  -- The tables of a frame with these bytes in a semi-planar layout, or planar without one.
   abbrev pub tables_of_bytes : Option SemiPlanarFormat → Sizes → List ℕ → Tables T
   tables_of_bytes None sizes bytes = tables_in form sizes bytes
   tables_of_bytes (Some layout) sizes bytes = tables_in_layout layout sizes bytes
 
   module _ (from : Container) (count : ℕ) (layout : Option SemiPlanarFormat) (sizes : Sizes)
       (left left' : Option (List ℕ)) where
-    -- a frame of these bytes was read, which shows these tables, or the stream stood at its
-    -- end before it
+    -- A frame with these bytes and these tables was read, or the stream was at its end.
     abbrev pub ReadsTables : List ℕ → Tables T → Bool → Type 0
     ReadsTables bytes tables true =
         (line : List ℕ) × IsFrame from count (line, bytes)

@@ -1,4 +1,4 @@
--- What is made of each frame of a stream before it is written.
+-- The steps from each frame of a stream to the output.
 use Rattle.std.specs.Prelude.{ℕ, ⊤, List, Option, Some, None, option_map}
 use Rattle.v_frame.specs.Prelude.{Frame, PixelForm, Tables, tables_of}
 use Rattle.v_frame_planar.specs.Planar.{planar_bytes, sizes_of}
@@ -10,9 +10,9 @@ use Rattle.v_frame_streams.specs.Pictures.{Sizes}
 use Rattle.v_frame_streams.specs.declared.edit.Edit.{Edit}
 use Rattle.v_frame_streams.specs.declared.maker.Maker.{Maker}
 
--- what is taken of each frame, the format in which it is read, the sizes of its planes then, the
--- format and the sizes in which it is written where that is another format, and the semi-planar
--- layout where one is asked for
+-- The edit of each frame, the format of the source, the sizes of the edited planes, the format and
+-- the sizes of the output if its format differs, and the semi-planar layout of the output if it has
+-- one.
 pub record Plan : Type 0 where
   pub edit : Edit
   pub from : Format
@@ -20,7 +20,7 @@ pub record Plan : Type 0 where
   pub to : Option (Format × Sizes)
   pub layout : Option SemiPlanarFormat
 
--- the bytes of a frame in a layout, or else its planar bytes
+-- The bytes of a frame in a semi-planar layout, or planar without one.
 abbrev pub bytes_in_layout : {T : Type 0} → PixelForm T → Option SemiPlanarFormat → Tables T
     → List ℕ
 bytes_in_layout form None tables = planar_bytes form tables
@@ -33,17 +33,17 @@ module _ {S T : Type 0} (form : PixelForm S) (other : PixelForm T) where
   bytes_in_format layout from (Some target) tables =
       bytes_in_layout other layout (in_format form other from target.0 target.1 tables)
 
-  -- the bytes that are written of a frame
+  -- The bytes that are written for a frame.
   abbrev pub planned_bytes : Plan → Tables S → List ℕ
   planned_bytes plan tables =
       bytes_in_format plan.layout plan.from plan.to (edited form plan.edit tables)
 
-  -- the bytes of the last frame that was made
+  -- The bytes of the frame that was edited last.
   abbrev pub bytes_made : Option SemiPlanarFormat → Frame S → Option (Frame T) → List ℕ
   bytes_made layout made None = bytes_in_layout form layout (tables_of made)
   bytes_made layout made (Some frame) = bytes_in_layout other layout (tables_of frame)
 
--- the format of a frame and the sizes of its planes
+-- The format of a frame and the sizes of its planes.
 abbrev pub shape_of : {T : Type 0} → Frame T → Format × Sizes
 shape_of frame = (format_of frame, sizes_of (tables_of frame))
 
@@ -62,8 +62,8 @@ abbrev pub CanConvert : ℕ → ℕ → Format → Sizes → Option (Format × S
 CanConvert bytes other from made None = ⊤
 CanConvert bytes other from made (Some target) = FormatsFit bytes other from target.0 made target.1
 
--- frames of a format whose planes have these sizes can be written in a layout, where one is asked
--- for, and pixels have so many bytes
+-- Frames with this format and these sizes, whose pixels have `bytes` bytes, can be written in a
+-- layout, or as planar frames without one.
 abbrev pub FitsLayout : ℕ → Option SemiPlanarFormat → Format × Sizes → Type 0
 FitsLayout bytes None shape = ⊤
 FitsLayout bytes (Some layout) shape = LayoutFits bytes layout shape.0 shape.1
@@ -73,8 +73,8 @@ abbrev pub CanLayOut : ℕ → ℕ → Option SemiPlanarFormat → Format × Siz
 CanLayOut bytes other layout made None = FitsLayout bytes layout made
 CanLayOut bytes other layout made (Some target) = FitsLayout other layout target
 
--- frames whose planes have these sizes can be made into what is written, where pixels have so many
--- bytes
+-- Frames whose planes have these sizes can be edited, converted and written as planned. The pixels
+-- of the source have `bytes` bytes, and those of the output `other`.
 pub record CanMake (bytes other : ℕ) (plan : Plan) (sizes : Sizes) : Type 0 where
   pub edits : EditFits plan.edit sizes plan.made
   pub converts : CanConvert bytes other plan.from plan.made plan.to

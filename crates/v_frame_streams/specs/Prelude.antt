@@ -1,4 +1,4 @@
--- The words that callers' clauses cite, re-exported from one place.
+-- The definitions that the contracts of callers cite, re-exported from one place.
 pub use Rattle.v_frame_planar.specs.Shown.{table_in, tables_in}
 pub use Rattle.v_frame_streams.specs.Breaks.{counts_of, BreaksCopy}
 pub use Rattle.v_frame_streams.specs.Comparisons.{errors_between, errors_of_all, shown, Compares, ComparesFrames, ComparesFrom}

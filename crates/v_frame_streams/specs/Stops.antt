@@ -1,4 +1,4 @@
--- Where a call on streams gave up, and what the system reported there.
+-- The position and the system error in an error of a call on streams.
 use Rattle.std.specs.Prelude.{◌≡◌, ◌⊎◌}
 use Rattle.v_frame_streams.specs.Errors.{cause_of}
 use Rattle.v_frame_streams.specs.declared.error.StreamError.{StreamError}
@@ -6,24 +6,24 @@ use Rattle.v_frame_streams.specs.declared.sink.Sink.{Sink}
 use Rattle.v_frame_streams.specs.declared.source.Source.{Source}
 use Rattle.v_frame_streams.specs.declared.stream.Place.TheVariants.{Output}
 
--- the error comes at the next frame of this stream, and a failed read has the cause that its
--- reader reported last
+-- The error is at the next frame of this stream. For a failed read, its cause is the last failure
+-- of the reader.
 pub record IsAtNextFrame {R : Type 0} (source : Source R) (error : StreamError) : Type 0 where
   pub place : error.place ≡ source.place
   pub frames : error.frames ≡ source.frames
   pub cause : error.cause ≡ cause_of error.problem source.reader.last_failure
 
--- the error comes at the next frame that is written, and a failed write has the cause that its
--- writer reported last
+-- The error is at the next frame of the output. For a failed write, its cause is the last failure
+-- of the writer.
 pub record IsAtNextWritten {W : Type 0} (sink : Sink W) (error : StreamError) : Type 0 where
   pub place : error.place ≡ Output
   pub frames : error.frames ≡ sink.frames
   pub cause : error.cause ≡ cause_of error.problem sink.writer.last_failure
 
--- a copy stops at the next frame that it reads, or at the next one that it writes
+-- A copy failed at the next frame of the source or of the output.
 abbrev pub StopsCopy : {R W : Type 0} → Source R → Sink W → StreamError → Type 0
 StopsCopy source sink error = IsAtNextFrame source error ⊎ IsAtNextWritten sink error
 
--- a comparison stops at the next frame of the first stream, or at that of the second
+-- A comparison failed at the next frame of the first or the second stream.
 abbrev pub StopsComparison : {R S : Type 0} → Source R → Source S → StreamError → Type 0
 StopsComparison first second error = IsAtNextFrame first error ⊎ IsAtNextFrame second error

@@ -1,7 +1,7 @@
--- What somebody is told while a command works.
+-- The progress that a call reports.
 use Rattle.std.specs.Prelude.{ℕ, zero, suc, ◌≡◌}
 
--- 1 was told, then 2, and so on up to a number
+-- The numbers 1, 2 and so on were reported, up to this number.
 abbrev pub TellsUpTo : {A : Type 0} → (A → A → ℕ → Type 0) → ℕ → A → A → Type 0
 TellsUpTo shows zero old new = new ≡ old
 TellsUpTo {A} shows (suc n) old new =

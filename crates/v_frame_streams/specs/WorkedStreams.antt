@@ -1,4 +1,4 @@
--- Small cases worked out by hand. Each line computes: it is proved by `refl`.
+-- Small examples worked out by hand. Each is proved by computation (`refl`).
 use Rattle.std.specs.Prelude.{ℕ, ◌≡◌, ◌<◌, [], ◌∷◌, Some, None, true, false, refl}
 use Rattle.v_frame_y4m.specs.declared.color.Color.TheVariants.{Yuv420, Yuv420Mpeg2, Yuv422}
 use Rattle.v_frame_y4m.specs.declared.error.Y4mError.TheVariants.{Planar}
@@ -18,19 +18,19 @@ use Rattle.v_frame_streams.specs.declared.stream.Container.TheVariants.{Raw}
 use Rattle.v_frame_formats.specs.Sums.{added}
 use Rattle.v_frame_formats.specs.declared.format.VideoFormat.TheVariants.{Planar}
 
--- 854 columns become 427, and these 214
+-- Half of 854 columns are 427, and half of these are 214, rounded up.
 half_of_even : halved_size true 854 ≡ 427
 half_of_even = refl
 
 half_of_odd : halved_size true 427 ≡ 214
 half_of_odd = refl
 
--- beside 5 columns from the second one on stand 3 of chroma at half the size
+-- The chroma of 5 luma columns from column 2 on, at half the width, has 3 columns.
 chroma_beside : beside (2, 2) (record { x = 2; y = 4; width = 5; height = 2 })
     ≡ record { x = 1; y = 2; width = 3; height = 1 }
 chroma_beside = refl
 
--- of three frames the first is passed over and one is taken
+-- Of three frames, the first is skipped and one is copied.
 taken_frames : kept
     (record {
       skip = 1;
@@ -46,21 +46,21 @@ taken_frames : kept
     ≡ ([], 2 ∷ []) ∷ []
 taken_frames = refl
 
--- samples that stay lie where the stream says
+-- If the chroma format does not change, the siting of the source is kept.
 siting_stays : color_in (Some (Planar Yuv420)) Yuv420Mpeg2 ≡ Yuv420Mpeg2
 siting_stays = refl
 
 other_chroma_is_named : color_in (Some (Planar Yuv422)) Yuv420Mpeg2 ≡ Yuv422
 other_chroma_is_named = refl
 
--- headerless frames are their bytes
+-- A frame of raw video is only its bytes.
 raw_frames : stream_bytes Raw (([], 1 ∷ 2 ∷ []) ∷ ([], 3 ∷ 4 ∷ []) ∷ []) ≡ 1 ∷ 2 ∷ 3 ∷ 4 ∷ []
 raw_frames = refl
 
 raw_frame_written : written_bytes Raw (1 ∷ 2 ∷ []) ≡ 1 ∷ 2 ∷ []
 raw_frame_written = refl
 
--- 3 by 2 pixels, with 2 by 1 pixels of chroma
+-- A picture of 3 by 2 luma pixels and 2 by 1 chroma pixels.
 abbrev sizes : Sizes
 sizes = ((3, 2), (Some (2, 1), Some (2, 1)))
 
@@ -86,7 +86,7 @@ nv21_shown : tables_of_bytes one_byte (Some Nv21) sizes
     ≡ picture
 nv21_shown = refl
 
--- 1 by 1 pixels of 10 bits in the top bits of words
+-- A picture of 1 by 1 pixels, with 10 bits in the top bits of 16-bit words.
 p010_shown : tables_of_bytes two_bytes (Some P010) ((1, 1), (Some (1, 1), Some (1, 1)))
     (192 ∷ 255 ∷ 64 ∷ 0 ∷ 0 ∷ 1 ∷ [])
     ≡ record {
@@ -96,7 +96,7 @@ p010_shown : tables_of_bytes two_bytes (Some P010) ((1, 1), (Some (1, 1), Some (
     }
 p010_shown = refl
 
--- what the system reported belongs to a read that failed, and to no other problem
+-- The last system error is the cause of a failed read, and of no other problem.
 failed_read_has_a_cause : cause_of (Stream (Planar Read)) (Some TimedOut) ≡ Some TimedOut
 failed_read_has_a_cause = refl
 
@@ -106,17 +106,17 @@ end_inside_a_frame_has_none = refl
 empty_crop_has_none : cause_of EmptyCrop (Some TimedOut) ≡ None
 empty_crop_has_none = refl
 
--- two bytes of six were found, and none is left
+-- The stream ended after two of six bytes.
 broken_frame : 2 < 6 → 0 < 2 → StopsFrame Raw (record { bytes = Some (70 ∷ 71 ∷ []); failures = 0 })
     (record { bytes = Some []; failures = 0 }) 6 (Stream (Planar (Truncated 6 2)))
 broken_frame less some = (refl, less, λ _. some, ([], 70 ∷ 71 ∷ []), refl, refl, refl, refl)
 
--- one read failed
+-- One read failed.
 failed_frame : StopsFrame Raw (record { bytes = Some (70 ∷ []); failures = 2 })
     (record { bytes = None; failures = 3 }) 6 (Stream (Planar Read))
 failed_frame = (refl, refl)
 
--- chroma is added where both have it
+-- Chroma sums are added if both frames have chroma.
 sums_are_added : added (record { y = 1; u = Some 2; v = None })
     (record { y = 3; u = Some 4; v = Some 5 })
     ≡ record { y = 4; u = Some 6; v = None }

@@ -1,4 +1,4 @@
-//! Frames that show the same, as the sums of their squared errors tell.
+//! Tests whether two frames show the same picture, given the sums of their squared errors.
 ghost use Rattle.std.specs.Prelude.{◌≡◌, ◌↔◌, IfSome, IsNone, IsTrue, option_map};
 ghost use Rattle.v_frame.specs.Prelude.{table_of, tables_of};
 ghost use Rattle.v_frame_planar.specs.Planar.{size_of, sizes_of};
@@ -10,8 +10,8 @@ use v_frame::pixel::Pixel;
 use v_frame::plane::Plane;
 use v_frame_formats::{PixelDifference, PlaneSums};
 
-/// Returns the first pixel that differs, as [`first_difference_of_frames`] does, of frames whose errors are known. None is
-/// sought where there is no error.
+/// Returns the first pixel that differs between two frames, as [`first_difference_of_frames`] does. The caller passes the sums
+/// of squared errors of the two frames as `errors`. If all sums are 0, the function returns `None` without searching.
 pub(crate) fn difference_by_errors<T: Pixel>(
     first: &Frame<T>,
     second: &Frame<T>,
@@ -34,7 +34,7 @@ pub(crate) fn difference_by_errors<T: Pixel>(
     first_difference_of_frames(first, second)
 }
 
-/// Returns whether frames of one size, whose errors are these, show the same.
+/// Returns whether two frames of one size show the same picture. `errors` are the sums of their squared errors.
 fn are_alike<T: Pixel>(first: &Frame<T>, second: &Frame<T>, errors: &PlaneSums) -> bool
     requires sizes { sizes_of (tables_of first.now) ≡ sizes_of (tables_of second.now) }
     requires y { errors.now.y ≡ plane_errors T.form.value (tables_of first.now).y
@@ -50,7 +50,8 @@ fn are_alike<T: Pixel>(first: &Frame<T>, second: &Frame<T>, errors: &PlaneSums) 
         && is_chroma_alike(&first.v_plane, &second.v_plane, errors.v)
 }
 
-/// Returns whether chroma planes, which are both there or both absent, show the same.
+/// Returns whether two chroma planes are equal. Both are present or both absent, and `errors` is the sum of their squared
+/// errors.
 fn is_chroma_alike<T: Pixel>(
     first: &Option<Plane<T>>,
     second: &Option<Plane<T>>,
@@ -68,13 +69,13 @@ fn is_chroma_alike<T: Pixel>(
     }
 }
 
-/// Returns whether planes of one size show the same.
+/// Returns whether two planes of one size are equal. `errors` is the sum of their squared errors.
 fn are_planes_alike<T: Pixel>(first: &Plane<T>, second: &Plane<T>, errors: u128) -> bool
     requires sizes { size_of (table_of first.now) ≡ size_of (table_of second.now) }
     requires errors { errors ≡ plane_errors T.form.value (table_of first.now) (table_of second.now) }
     ensures { IsTrue result ↔ (table_of first.now ≡ table_of second.now) }
 {
-    // The rows of a table are as long as the width that is read.
+    // Reading the width states that every row of the table is as long as the plane is wide.
     let _sizes = (
         first.width(),
         first.height(),

@@ -1,4 +1,4 @@
-//! Two streams, compared frame by frame.
+//! Compares two streams frame by frame.
 ghost use Rattle.std.specs.Prelude.{◌≡◌, ◌≢◌, ◌⊎◌, ◌*◌, ◌≤◌, ◌<◌, IfErr, IfOk, None, OnOk};
 ghost use Rattle.v_frame.specs.Prelude.{one_byte, tables_of, two_bytes};
 ghost use Rattle.v_frame_planar.specs.Planar.{sizes_of};
@@ -26,14 +26,28 @@ use std::io;
 use v_frame::frame::Frame;
 use v_frame::pixel::Pixel;
 
-/// Compares two streams as far as both go, after the frames that are passed over. Each two frames are shown to `observer` when
-/// they were compared and counted, and then `progress` is told how many they are.
+/// Compares two streams frame by frame, up to the end of the shorter one.
+///
+/// The call first skips [`skip_first`](crate::CompareOptions::skip_first) frames of `first` and
+/// [`skip_second`](crate::CompareOptions::skip_second) frames of `second`. It then compares at most
+/// [`count`](crate::CompareOptions::count) pairs of frames. `observer` receives each pair together with the sums of its squared
+/// errors. After each pair, `progress` receives the number of pairs compared so far.
 ///
 /// # Errors
 ///
-/// Of [`Problem`](crate::Problem) `OtherSize`, `OtherChroma` and `OtherDepth`, told of the second stream, where the two have
-/// not one format; `TooManyPixels` where a picture has more than the options allow; `OutOfMemory`. Then nothing was read.
-/// `Stream` where a frame was not read. Those of the observer.
+/// These errors are returned before anything is read:
+///
+/// - [`OtherSize`](crate::Problem::OtherSize), [`OtherChroma`](crate::Problem::OtherChroma) or
+///   [`OtherDepth`](crate::Problem::OtherDepth), reported for the second stream, if the formats of the streams differ.
+/// - [`TooManyPixels`](crate::Problem::TooManyPixels) if a frame has more luma pixels than
+///   [`max_pixels`](crate::CompareOptions::max_pixels).
+/// - [`TooLarge`](crate::Problem::TooLarge) if the planes of a frame are too large for the address space.
+/// - [`OutOfMemory`](crate::Problem::OutOfMemory) if a memory allocation fails.
+///
+/// These errors are returned while the streams are read:
+///
+/// - [`Stream`](crate::Problem::Stream) if a frame cannot be read whole.
+/// - Any error that `observer` returns.
 pub fn compare_streams<
     R: io::Read,
     S: io::Read,
@@ -84,7 +98,7 @@ pub fn compare_streams<
     compare_as::<u16, _, _, _, _>(alloc, first, second, options, observer, progress)
 }
 
-/// Compares two streams of one format with pixels of this type.
+/// Compares two streams of one format. `T` is the pixel type of that format.
 fn compare_as<T: Pixel, R: io::Read, S: io::Read, O: FrameObserver<T>, P: Progress>(
     alloc: Global,
     first: &mut Source<R>,
@@ -120,7 +134,7 @@ fn compare_as<T: Pixel, R: io::Read, S: io::Read, O: FrameObserver<T>, P: Progre
     )
 }
 
-/// Compares so many frames, or as many as both streams have where they are fewer.
+/// Compares at most `most` pairs of frames, up to the end of the shorter stream.
 fn compare_frames<T: Pixel, R: io::Read, S: io::Read, O: FrameObserver<T>, P: Progress>(
     first: &mut Source<R>,
     second: &mut Source<S>,
@@ -162,7 +176,7 @@ fn compare_frames<T: Pixel, R: io::Read, S: io::Read, O: FrameObserver<T>, P: Pr
     Ok(found)
 }
 
-/// Compares one more frame of each stream, and shows both to the observer.
+/// Compares one more pair of frames and passes it to the observer.
 fn compare_pair<T: Pixel, O: FrameObserver<T>>(
     found: &Comparison,
     first: &Frame<T>,

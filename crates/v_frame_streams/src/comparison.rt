@@ -1,4 +1,4 @@
-//! How far two streams are apart.
+//! The result of a comparison of two streams.
 ghost use Rattle.std.specs.Prelude.{◌≡◌, ◌+◌, ◌↔◌, IfSome, IsNone, IsTrue, None, Some, min, option_map};
 ghost use Rattle.v_frame.specs.Prelude.{table_of, tables_of};
 ghost use Rattle.v_frame_planar.specs.Planar.{sizes_of};
@@ -14,34 +14,35 @@ use v_frame::pixel::Pixel;
 use v_frame::plane::Plane;
 use v_frame_formats::{PixelDifference, PlaneSums};
 
-/// What a comparison takes of two streams.
+/// Selects the frames that a comparison reads.
 #[derive(Debug, Clone, Copy, PartialEq, Eq)]
 pub struct CompareOptions {
-    /// How many frames of the first stream are passed over first.
+    /// The number of frames of the first stream to skip before the comparison.
     pub skip_first: u64,
-    /// How many frames of the second stream are passed over first.
+    /// The number of frames of the second stream to skip before the comparison.
     pub skip_second: u64,
-    /// How many frames are compared then. All that both have, where it is missing.
+    /// The largest number of frame pairs to compare. `None` compares up to the end of the shorter stream.
     pub count: Option<u64>,
-    /// How many pixels of luma a picture may have that is made in memory.
+    /// The largest number of luma pixels that a frame may have. A stream of larger frames is rejected, before memory for a
+    /// frame is allocated.
     pub max_pixels: usize,
 }
 
-/// How far two streams are apart.
+/// How much two streams differ.
 #[derive(Debug, Clone, Copy, PartialEq, Eq)]
 pub struct Comparison {
-    /// How many frames of each were compared.
+    /// The number of frame pairs that were compared.
     pub frames: u64,
-    /// The sums of the squared errors of these, plane by plane. A sum saturates at `u128::MAX`.
+    /// The sums of the squared differences of all compared pixels, one sum for each plane. A sum saturates at `u128::MAX`.
     pub errors: PlaneSums,
-    /// The first pixel that differs, and how many of the frames stand before its own.
+    /// The first pixel that differs, and the number of compared pairs before its own. `None` if all compared frames are equal.
     pub difference: Option<(u64, PixelDifference)>,
-    /// The stream that has more frames, where one has and the comparison came to the end of the other.
+    /// The stream that has more frames, if the comparison reached the end of the other one.
     pub longer: Option<Place>,
 }
 
 impl Comparison {
-    /// That of no frames, of which each would have the planes of this one.
+    /// Returns the comparison of no frames at all. `frame` determines which planes have a sum.
     pub(crate) fn new<T: Pixel>(frame: &Frame<T>) -> Self
         ensures { result ≡ record {
           frames = 0;
@@ -62,14 +63,14 @@ impl Comparison {
         }
     }
 
-    /// Returns whether the streams show the same.
+    /// Returns whether the compared frames are equal and neither stream was found to be longer than the other.
     pub fn shows_the_same(&self) -> bool
         ensures { IsTrue result ↔ (IsNone self.now.difference × IsNone self.now.longer) }
     {
         self.difference.is_none() && self.longer.is_none()
     }
 
-    /// Returns this with one more frame of each stream, of which the errors are these.
+    /// Returns this comparison, extended by one more pair of frames. `errors` are the sums of the squared errors of that pair.
     pub(crate) fn with_frames<T: Pixel>(
         &self,
         first: &Frame<T>,
@@ -109,7 +110,7 @@ impl Comparison {
     }
 }
 
-/// Returns no error in a chroma plane, where it is there.
+/// Returns the sum 0 for a chroma plane, or `None` if the plane is absent.
 fn no_error<T: Pixel>(plane: &Option<Plane<T>>) -> Option<u128>
     ensures { result ≡ option_map (λ _. 0) (option_map table_of plane.now) }
 {
@@ -119,7 +120,7 @@ fn no_error<T: Pixel>(plane: &Option<Plane<T>>) -> Option<u128>
     }
 }
 
-/// Returns the place of the stream that has one more frame, where the other has none.
+/// Returns the stream that still had a frame, if the other one had none. `first` and `second` say whether each stream had one.
 pub(crate) fn longer_of(first: bool, second: bool) -> Option<Place>
     ensures { result ≡ longer first second }
 {

@@ -1,4 +1,4 @@
-//! Frames in another chroma format and bit depth.
+//! Converts frames to another chroma format and bit depth.
 ghost use Rattle.std.specs.Prelude.{◌≡◌, option_map};
 ghost use Rattle.v_frame.specs.Prelude.{table_of, tables_of};
 ghost use Rattle.v_frame_planar.specs.Planar.{size_of, sizes_of};
@@ -9,7 +9,8 @@ use v_frame::pixel::Pixel;
 use v_frame::plane::Plane;
 use v_frame_convert::convert_frame;
 
-/// Shows in `target` what `source` shows, in the format of the target. The borders stay.
+/// Converts the picture of `source` to the chroma subsampling and bit depth of `target` and stores it there. The padding of
+/// `target` is unchanged.
 pub(crate) fn convert_to_format<S: Pixel, T: Pixel>(source: &Frame<S>, target: &mut Frame<T>)
     requires { FormatsFit S.BYTES T.BYTES (format_of source.now) (format_of target.old)
         (sizes_of (tables_of source.now)) (sizes_of (tables_of target.old)) }
@@ -24,7 +25,7 @@ pub(crate) fn convert_to_format<S: Pixel, T: Pixel>(source: &Frame<S>, target: &
     sizes_are_laid_out(target);
 }
 
-/// The sizes of the tables of a frame are those that the planes are laid out with.
+/// The tables of a frame have the sizes in the geometries of its planes.
 pub(crate) fn sizes_are_laid_out<T: Pixel>(frame: &Frame<T>)
     ensures { sizes_of (tables_of frame.now) ≡ sizes_laid_out frame.now }
 {
@@ -33,7 +34,7 @@ pub(crate) fn sizes_are_laid_out<T: Pixel>(frame: &Frame<T>)
     chroma_size_is_laid_out(&frame.v_plane);
 }
 
-/// The same of a chroma plane, where it is there.
+/// The table of a chroma plane, if there is one, has the size in the geometry of the plane.
 fn chroma_size_is_laid_out<T: Pixel>(plane: &Option<Plane<T>>)
     ensures { option_map size_of (option_map table_of plane.now) ≡ option_map size_laid_out plane.now }
 {
@@ -42,10 +43,10 @@ fn chroma_size_is_laid_out<T: Pixel>(plane: &Option<Plane<T>>)
     }
 }
 
-/// The same of a plane.
+/// The table of a plane has the size in its geometry.
 fn size_is_laid_out<T: Pixel>(plane: &Plane<T>)
     ensures { size_of (table_of plane.now) ≡ size_laid_out plane.now }
 {
-    // What the clauses of these calls say is the proof.
+    // The contracts of these two calls are the whole proof.
     let _size = (plane.width(), plane.height());
 }

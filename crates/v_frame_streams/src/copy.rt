@@ -1,4 +1,4 @@
-//! Streams that are written once more, as they are or with other frames.
+//! Copies a stream, with its frames unchanged or edited.
 ghost use Rattle.std.specs.Prelude.{◌≡◌, ◌+◌, min, true, IfErr, IfOk, None, OnErr, OnOk};
 ghost use Rattle.std.specs.Io.KnownBytes.{Appends};
 ghost use Rattle.v_frame_y4m.specs.Color.{depth_of};
@@ -31,20 +31,31 @@ use std::io;
 use v_frame::pixel::Pixel;
 use v_frame_y4m::StreamHeader;
 
-/// Writes a stream once more, and counts the frames that are written.
+/// Copies frames from `source` to `sink`, edits them if `options` say so, and returns the number of frames written.
 ///
-/// Frames are passed over and taken as the options say. Where none is cropped, halved or written in another format or layout,
-/// they are moved as bytes, through a block of fixed size. Else they are read one by one into one picture: the crop is taken,
-/// then halved, and what is made so is written in the format. Without a format the layout of the source is written to raw video,
-/// and planar frames to a YUV4MPEG2 stream. Nothing is written before all tests. After each frame that was written `progress` is
-/// told how many they are.
+/// The call writes the header, skips [`CopyOptions::skip`] frames of `source`, and then copies at most [`CopyOptions::count`]
+/// frames.
+///
+/// If the frames need no crop, no halving and no conversion, their bytes are copied through a block of fixed size. Otherwise
+/// each frame is read into one reused picture, cropped, halved, and converted to the output format, in this order. Without an
+/// output format, raw video keeps the semi-planar layout of the source, and a YUV4MPEG2 stream gets planar frames.
+///
+/// After each frame written, `progress` receives the number of frames written so far.
 ///
 /// # Errors
 ///
-/// Of [`Problem`] `EmptyCrop`, `CropOutside` and `CropMisaligned` where the crop can't be taken; `SemiPlanar` where a YUV4MPEG2
-/// stream is asked for in a semi-planar layout; `Unwritable` where no header line says what should be written; `TooManyPixels`,
-/// where a picture is to be made that has more than the options allow; `OutOfMemory`. Then nothing was read or written. `Stream`
-/// where a frame was not read or not written.
+/// These errors are returned before anything is read or written:
+///
+/// - [`Problem::EmptyCrop`], [`Problem::CropOutside`] or [`Problem::CropMisaligned`] if the crop does not fit the frames.
+/// - [`Problem::SemiPlanar`] if `sink` is a YUV4MPEG2 stream and the output format is semi-planar.
+/// - [`Problem::Unwritable`] if no header line can describe the output.
+/// - [`Problem::TooManyPixels`] if a frame that has to be held in memory has more than [`CopyOptions::max_pixels`] luma pixels.
+/// - [`Problem::TooLarge`] if the planes of such a frame are too large for the address space.
+/// - [`Problem::OutOfMemory`] if a memory allocation fails.
+///
+/// This error is returned during the copy, and part of the output may have been written:
+///
+/// - [`Problem::Stream`] if the header line cannot be written, if a frame cannot be read whole, or if a write fails.
 pub fn copy_stream<R: io::Read, W: io::Write, P: Progress>(
     alloc: Global,
     source: &mut Source<R>,
@@ -75,7 +86,7 @@ pub fn copy_stream<R: io::Read, W: io::Write, P: Progress>(
     edit_as::<u16, _, _, _>(alloc, source, &header, sink, options, progress)
 }
 
-/// Returns the header that is written, where all that can be tested before allows the copy.
+/// Returns the header of the output, if every check that needs no memory for frames allows the copy.
 fn planned_header<R: io::Read, W: io::Write>(
     alloc: Global,
     source: &Source<R>,
@@ -105,7 +116,7 @@ fn planned_header<R: io::Read, W: io::Write>(
     Ok(header)
 }
 
-/// Copies a stream whose frames are written as they are.
+/// Copies a stream whose frames are written unchanged.
 fn move_stream<R: io::Read, W: io::Write, P: Progress>(
     alloc: Global,
     source: &mut Source<R>,
@@ -133,7 +144,8 @@ fn move_stream<R: io::Read, W: io::Write, P: Progress>(
     move_frames(source, sink, most, progress)
 }
 
-/// Copies a stream of pixels of this type, of whose frames others are made.
+/// Copies a stream of pixels of type `S` whose frames are edited. The bit depth in `header` selects the pixel type of the
+/// output.
 fn edit_as<S: Pixel, R: io::Read, W: io::Write, P: Progress>(
     alloc: Global,
     source: &mut Source<R>,
@@ -165,7 +177,7 @@ fn edit_as<S: Pixel, R: io::Read, W: io::Write, P: Progress>(
     edit_stream::<S, u16, _, _, _>(alloc, source, header, sink, options, progress)
 }
 
-/// Copies a stream of pixels of one type, and writes pixels of another.
+/// Copies a stream of pixels of type `S` and writes pixels of type `T`.
 fn edit_stream<S: Pixel, T: Pixel, R: io::Read, W: io::Write, P: Progress>(
     alloc: Global,
     source: &mut Source<R>,
@@ -205,7 +217,7 @@ fn edit_stream<S: Pixel, T: Pixel, R: io::Read, W: io::Write, P: Progress>(
     edit_frames(source, &mut picture, &mut maker, sink, most, progress)
 }
 
-/// Writes the header and passes over frames. Returns whether as many were passed over as the options say.
+/// Writes the header and skips [`CopyOptions::skip`] frames. Returns whether the source had that many frames.
 fn begin_copy<R: io::Read, W: io::Write>(
     alloc: Global,
     source: &mut Source<R>,

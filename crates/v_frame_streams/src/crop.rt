@@ -1,4 +1,4 @@
-//! Frames cut out of frames.
+//! Crops frames.
 ghost use Rattle.std.specs.Prelude.{◌≡◌, ◌↔◌, ◌+◌, ◌≤◌, ◌<◌, option_map, IfErr, IfOk, IfSome, IsTrue, OnOk};
 ghost use Rattle.v_frame.specs.Prelude.{table_of, tables_of};
 ghost use Rattle.v_frame_planar.specs.Video.{ratio_or_one};
@@ -19,12 +19,15 @@ use v_frame::plane::{Plane, PlaneGeometry};
 use v_frame_formats::Rectangle;
 use v_frame_planar::subsample_ratio_or_one;
 
-/// Tests whether a rectangle, in luma pixels, can be cut out of the pictures of a stream.
+/// Tests whether the rectangle `part`, in luma pixels, can be cropped from the frames of `source`.
 ///
 /// # Errors
 ///
-/// The first of these that holds: [`Problem::EmptyCrop`] where it has no column or no row, [`Problem::CropOutside`] where it
-/// doesn't lie inside the picture, and [`Problem::CropMisaligned`] where it begins inside a chroma pixel.
+/// The first of these that applies:
+///
+/// - [`Problem::EmptyCrop`] if `part` has no column or no row.
+/// - [`Problem::CropOutside`] if `part` is not inside the picture.
+/// - [`Problem::CropMisaligned`] if `part` begins inside a chroma pixel.
 pub fn check_crop<R: io::Read>(source: &Source<R>, part: &Rectangle) -> Result<(), StreamError>
     ensures ok { OnOk result (IsTakable part.now source.now.header) }
     ensures refused { IfErr result (λ error. RefusesCrop part.now source.now.header error.problem) }
@@ -41,15 +44,20 @@ pub fn check_crop<R: io::Read>(source: &Source<R>, part: &Rectangle) -> Result<(
     }
 }
 
-/// Returns a new frame without a border that shows a rectangle of another one, given in luma pixels, and the chroma beside it, in
-/// the same format and bit depth. Where a size is no multiple of the chroma ratio, chroma is rounded up, as a video file has it.
+/// Returns a new frame without padding that shows the rectangle `part` of `frame`.
+///
+/// `part` is in luma pixels. The new frame has the chroma subsampling and bit depth of `frame`. If the width or the height of
+/// `part` is not a multiple of the subsampling ratio, the size of the chroma planes is rounded up, as in video files.
 ///
 /// # Errors
 ///
-/// The first of these that holds: [`Problem::EmptyCrop`] where the rectangle has no column or no row,
-/// [`Problem::CropOutside`] where it doesn't lie inside luma, [`Problem::CropMisaligned`] where it begins inside a chroma pixel,
-/// [`Problem::CropOutside`] where a chroma plane is too small for what stands beside it, and [`Problem::OutOfMemory`] where a
-/// request for memory was refused.
+/// The first of these that applies:
+///
+/// - [`Problem::EmptyCrop`] if `part` has no column or no row.
+/// - [`Problem::CropOutside`] if `part` is not inside the luma plane.
+/// - [`Problem::CropMisaligned`] if `part` begins inside a chroma pixel.
+/// - [`Problem::CropOutside`] if a chroma plane is too small to hold the chroma of `part`.
+/// - [`Problem::OutOfMemory`] if a memory allocation fails.
 pub fn crop_frame<T: Pixel>(
     alloc: Global,
     frame: &Frame<T>,
@@ -69,7 +77,7 @@ pub fn crop_frame<T: Pixel>(
     }
 }
 
-/// Tests whether a rectangle can be cut out of pictures of a size.
+/// Tests whether the rectangle `part` can be cropped from pictures of this size, which is a width and a height in luma pixels.
 fn test_part(
     part: &Rectangle,
     size: (usize, usize),
@@ -91,7 +99,8 @@ fn test_part(
     Ok(())
 }
 
-/// Tests whether a frame has a rectangle of luma, and the chroma beside it in the planes that are there.
+/// Tests whether `frame` contains the rectangle `part` of luma, and the chroma of that rectangle in each chroma plane that is
+/// present.
 fn test_frame<T: Pixel>(frame: &Frame<T>, part: &Rectangle) -> Result<(), Problem>
     ensures ok { OnOk result (HasPart part.now frame.now) }
     ensures refused { IfErr result (RefusesFrame part.now frame.now) }
@@ -105,7 +114,7 @@ fn test_frame<T: Pixel>(frame: &Frame<T>, part: &Rectangle) -> Result<(), Proble
     Ok(())
 }
 
-/// Returns whether a rectangle lies in a chroma plane, where it is there.
+/// Returns whether a chroma plane contains the rectangle `part`. Returns true if the plane is absent.
 fn chroma_has<T: Pixel>(plane: &Option<Plane<T>>, part: &Rectangle) -> bool
     ensures { IsTrue result ↔ IfSome (option_map size_laid_out plane.now) (LiesIn part.now) }
 {
@@ -115,7 +124,7 @@ fn chroma_has<T: Pixel>(plane: &Option<Plane<T>>, part: &Rectangle) -> bool
     }
 }
 
-/// Returns a frame that shows a rectangle that another one has.
+/// Returns a new frame that shows the rectangle `part` of `frame`, which contains it.
 fn crop_planes<T: Pixel>(
     alloc: Global,
     frame: &Frame<T>,
@@ -137,7 +146,7 @@ fn crop_planes<T: Pixel>(
     })
 }
 
-/// Returns a plane that shows a rectangle of a chroma plane, where it is there.
+/// Returns a new plane that shows the rectangle `part` of a chroma plane, or `None` if the plane is absent.
 fn crop_chroma<T: Pixel>(
     alloc: Global,
     plane: &Option<Plane<T>>,
@@ -157,7 +166,7 @@ fn crop_chroma<T: Pixel>(
     }
 }
 
-/// Returns a plane without a border that shows a rectangle of another one.
+/// Returns a new plane without padding that shows the rectangle `part` of `plane`.
 fn crop_plane<T: Pixel>(
     alloc: Global,
     plane: &Plane<T>,

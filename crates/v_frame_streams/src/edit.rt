@@ -1,4 +1,4 @@
-//! Frames made of others: a rectangle of each, as large as it is or at half the size, rounded up.
+//! Crops frames and optionally halves their size, rounded up.
 ghost use Rattle.std.specs.Prelude.{◌≡◌, ◌+◌, ◌/◌, ◌<◌, ◌≤◌, option_map};
 ghost use Rattle.v_frame.specs.Prelude.{KeepsBorder, KeepsBorders, rectangle, table_of, tables_of, border_and_geometry};
 ghost use Rattle.v_frame_planar.specs.Planar.{size_of, sizes_of};
@@ -15,19 +15,20 @@ use v_frame_ops::copy_region;
 use v_frame_ops::laws::tables_agree_by_pixels;
 use v_frame_planar::subsample_ratio_or_one;
 
-/// What is made of each plane of a frame.
+/// The edit of each frame: a crop, followed by halving if `half` is set.
 #[derive(Clone, Copy)]
 pub(crate) struct Edit {
-    /// What is taken of luma, in its pixels.
+    /// The rectangle of the luma plane that is kept, in luma pixels.
     pub(crate) luma: Rectangle,
-    /// What is taken of each chroma plane, in its pixels.
+    /// The rectangle of each chroma plane that is kept, in chroma pixels.
     pub(crate) chroma: Rectangle,
-    /// Whether the frame that is made has half the size of what is taken.
+    /// Whether the result has half the width and half the height of the rectangle, rounded up.
     pub(crate) half: bool,
 }
 
 impl Edit {
-    /// Takes a rectangle, in luma pixels, of frames of this format, and the chroma that stands beside it.
+    /// Returns the edit that keeps the rectangle `luma`, in luma pixels, of frames with this subsampling, together with its
+    /// chroma.
     pub(crate) fn new(luma: Rectangle, subsampling: ChromaSubsampling, half: bool) -> Self
         ensures { result ≡ record {
           luma = luma;
@@ -43,7 +44,7 @@ impl Edit {
     }
 }
 
-/// Returns the chroma pixels beside a rectangle of luma, with those of which only a part stands beside it.
+/// Returns the chroma pixels that belong to a rectangle of luma, including those of which only a part belongs to it.
 pub(crate) fn chroma_beside(luma: &Rectangle, subsampling: ChromaSubsampling) -> Rectangle
     ensures { result ≡ beside (ratio_or_one subsampling) luma.now }
 {
@@ -56,7 +57,7 @@ pub(crate) fn chroma_beside(luma: &Rectangle, subsampling: ChromaSubsampling) ->
     }
 }
 
-/// Shows in `target` what is made of `source`, whose planes hold what is taken. The borders stay.
+/// Applies `edit` to the picture of `source` and stores the result in `target`. The padding of `target` is unchanged.
 pub(crate) fn edit_frame<T: Pixel>(edit: &Edit, source: &Frame<T>, target: &mut Frame<T>)
     requires { EditFits edit.now (sizes_of (tables_of source.now))
         (sizes_of (tables_of target.old)) }
@@ -79,7 +80,7 @@ pub(crate) fn edit_frame<T: Pixel>(edit: &Edit, source: &Frame<T>, target: &mut 
     );
 }
 
-/// Does so for chroma planes, where they are there.
+/// Applies the edit to chroma planes, if they are present.
 fn edit_chroma<T: Pixel>(
     half: bool,
     part: &Rectangle,
@@ -99,7 +100,7 @@ fn edit_chroma<T: Pixel>(
     }
 }
 
-/// Does so for planes.
+/// Applies the edit to one plane.
 fn edit_plane<T: Pixel>(half: bool, part: &Rectangle, source: &Plane<T>, target: &mut Plane<T>)
     requires { PlaneFits half part.now (size_of (table_of source.now))
         (size_of (table_of target.old)) }
@@ -123,7 +124,7 @@ fn edit_plane<T: Pixel>(half: bool, part: &Rectangle, source: &Plane<T>, target:
     let _sizes = (target.width(), target.height());
 }
 
-/// Returns a rectangle that lies in a plane, and is not empty.
+/// Returns a view of the rectangle `part` of `plane`. The rectangle is not empty and lies inside the plane.
 pub(crate) fn part_of<'a, T: Pixel>(plane: &'a Plane<T>, part: &Rectangle) -> PlaneRef<'a, T>
     requires wide { 0 < part.now.width }
     requires high { 0 < part.now.height }
@@ -139,7 +140,7 @@ pub(crate) fn part_of<'a, T: Pixel>(plane: &'a Plane<T>, part: &Rectangle) -> Pl
         .visible_region(part.x, part.y, part.width, part.height)
 }
 
-/// Shows all of one plane in another of the same size.
+/// Copies the pixels of one plane to another of the same size.
 pub(crate) fn copy_plane<T: Pixel>(source: &PlaneRef<'_, T>, target: &mut Plane<T>)
     requires wide { source.now.geometry.width ≡ target.old.geometry.width }
     requires high { source.now.geometry.height ≡ target.old.geometry.height }
@@ -156,7 +157,7 @@ pub(crate) fn copy_plane<T: Pixel>(source: &PlaneRef<'_, T>, target: &mut Plane<
     );
 }
 
-/// Shows one plane in another of half the size, rounded up.
+/// Halves the width and the height of one plane, rounded up, and stores the result in another.
 fn halve_plane<T: Pixel>(source: &PlaneRef<'_, T>, target: &mut Plane<T>)
     requires wide { target.old.geometry.width ≡ (source.now.geometry.width + 1) / 2 }
     requires high { target.old.geometry.height ≡ (source.now.geometry.height + 1) / 2 }

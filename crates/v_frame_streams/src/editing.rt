@@ -1,4 +1,4 @@
-//! Frames that are written changed: each is read into one picture, and what is made of it is written.
+//! Copies frames that are edited: each is read into one picture, edited and written.
 ghost use Rattle.std.specs.Prelude.{◌≡◌, IfErr, IfOk, OnErr};
 ghost use Rattle.v_frame.specs.Prelude.{tables_of};
 ghost use Rattle.v_frame_planar.specs.Planar.{sizes_of};
@@ -20,7 +20,7 @@ use crate::source::Source;
 use std::io;
 use v_frame::pixel::Pixel;
 
-/// Writes what is made of so many frames, or of all that are left where they are fewer, and counts them.
+/// Reads, edits and writes at most `most` frames, up to the end of the source. Returns the number of frames written.
 pub(crate) fn edit_frames<S: Pixel, T: Pixel, R: io::Read, W: io::Write, P: Progress>(
     source: &mut Source<R>,
     picture: &mut Picture<S>,

@@ -1,4 +1,4 @@
-//! Why a call on streams gave up, and where.
+//! Errors of calls on streams, and where they happened.
 
 use crate::stream::Place;
 use std::{fmt, io};
@@ -6,16 +6,16 @@ use thiserror::Error;
 use v_frame_planar::PlanarError;
 use v_frame_y4m::Y4mError;
 
-/// Why a call gave up: in which stream, at which frame, and what the system reported.
+/// An error of a call on streams: the stream, the frame, the problem, and the kind of system error behind it.
 #[derive(Debug, Drop)]
 pub struct StreamError {
-    /// The stream.
+    /// The stream in which the error happened.
     pub place: Place,
-    /// How many frames of it were read or written whole.
+    /// The number of frames of this stream that were read or written whole before the error.
     pub frames: u64,
-    /// What happened then.
+    /// The problem.
     pub problem: Problem,
-    /// What the system reported, where a read or a write failed.
+    /// The kind of error that the reader or the writer reported, if a read or a write failed.
     pub cause: Option<io::ErrorKind>,
 }
 
@@ -23,7 +23,7 @@ impl StreamError {
     ghost use Rattle.std.specs.Prelude.{◌≡◌, None};
     ghost use Rattle.v_frame_streams.specs.Errors.{cause_of};
 
-    /// Returns the error in front of the first frame, which no failed read or write caused.
+    /// Returns an error at the first frame of the stream `place`, with no system error behind it.
     pub fn at_start(place: Place, problem: Problem) -> Self
         ensures { result ≡ record { place = place; frames = 0; problem = problem; cause = None } }
     {
@@ -35,8 +35,8 @@ impl StreamError {
         }
     }
 
-    /// Returns the error at the next frame of a stream. What the system reported last belongs to it where a read or a write
-    /// failed, and else to an earlier call.
+    /// Returns an error at the next frame of a stream, after `frames` whole frames. `last_failure` becomes its cause if
+    /// `problem` is a failed read or write. Otherwise an earlier call caused that failure, and it is ignored.
     pub(crate) fn at_frame(
         place: Place,
         frames: u64,
@@ -74,51 +74,51 @@ impl fmt::Display for StreamError {
     }
 }
 
-/// What happened to a stream.
+/// What went wrong with a stream.
 #[derive(Debug, Drop, Error)]
 pub enum Problem {
-    /// Its header or its next frame was not read or not written.
+    /// The header or the next frame could not be read or written.
     #[error(transparent)]
     Stream(#[from] Y4mError),
-    /// A frame has more bytes than can be addressed, or none.
+    /// A frame has more bytes or pixels than the program can address, or it has no bytes.
     #[error("the frames are too large")]
     TooLarge,
-    /// A picture has more pixels than may be made in memory.
+    /// A picture has more luma pixels than the caller's limit for frames in memory. The number is the limit.
     #[error("the picture has more than {0} luma pixels")]
     TooManyPixels(usize),
     /// The crop has no column or no row.
     #[error("the crop is empty")]
     EmptyCrop,
-    /// The crop doesn't lie inside the picture.
+    /// The crop is not inside the picture.
     #[error("the crop is not inside the picture")]
     CropOutside,
     /// The crop begins inside a chroma pixel.
     #[error("the crop begins inside a chroma pixel, which is {columns} luma columns wide and {rows} rows high")]
     CropMisaligned {
-        /// How many luma columns stand beside one chroma column.
+        /// The number of luma columns for each chroma column.
         columns: usize,
-        /// How many luma rows stand beside one chroma row.
+        /// The number of luma rows for each chroma row.
         rows: usize,
     },
     /// The frames of the two streams have different sizes.
     #[error("the streams have different sizes")]
     OtherSize,
-    /// They have different chroma formats.
+    /// The two streams have different chroma formats.
     #[error("the streams have different chroma formats")]
     OtherChroma,
-    /// They have different bit depths.
+    /// The two streams have different bit depths.
     #[error("the streams have different bit depths")]
     OtherDepth,
-    /// A YUV4MPEG2 stream has no frames in a semi-planar layout.
+    /// Semi-planar frames cannot be written to a YUV4MPEG2 stream.
     #[error("a YUV4MPEG2 stream has no semi-planar frames")]
     SemiPlanar,
-    /// A semi-planar layout is for another chroma format or bit depth.
+    /// The chroma subsampling or the bit depth of a semi-planar layout differs from that of the header.
     #[error("the layout is for another chroma format or bit depth")]
     OtherLayout,
-    /// No header line says what should be written.
+    /// No header line can describe the output.
     #[error("no header line can say this size or these extensions")]
     Unwritable,
-    /// A request for memory was refused.
+    /// A memory allocation failed.
     #[error("out of memory")]
     OutOfMemory,
 }

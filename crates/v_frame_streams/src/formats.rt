@@ -1,4 +1,4 @@
-//! Whether two streams have one format.
+//! Tests whether two streams have the same format.
 ghost use Rattle.std.specs.Prelude.{IfErr, OnOk};
 ghost use Rattle.v_frame_streams.specs.Stops.{IsAtNextFrame};
 ghost use Rattle.v_frame_streams.specs.Formats.{HaveOneFormat, RefusesFormats};
@@ -8,12 +8,15 @@ use crate::source::Source;
 use std::io;
 use v_frame_y4m::StreamHeader;
 
-/// Checks that two streams have frames of one size, one chroma format and one bit depth.
+/// Checks that the frames of two streams have the same size, the same chroma format and the same bit depth.
 ///
 /// # Errors
 ///
-/// The first of [`Problem::OtherSize`], [`Problem::OtherChroma`] and [`Problem::OtherDepth`] that holds, told of the second
-/// stream.
+/// The first of these that applies, reported for the second stream:
+///
+/// - [`Problem::OtherSize`] if the sizes differ.
+/// - [`Problem::OtherChroma`] if the chroma formats differ.
+/// - [`Problem::OtherDepth`] if the bit depths differ.
 pub fn check_formats<R: io::Read, S: io::Read>(
     first: &Source<R>,
     second: &Source<S>,
@@ -29,7 +32,7 @@ pub fn check_formats<R: io::Read, S: io::Read>(
     }
 }
 
-/// Returns the first of the problems that two headers of streams have beside each other.
+/// Checks that two headers describe frames of the same size, the same chroma format and the same bit depth.
 fn test_formats(first: &StreamHeader, second: &StreamHeader) -> Result<(), Problem>
     ensures ok { OnOk result (HaveOneFormat first.now second.now) }
     ensures refused { IfErr result (RefusesFormats first.now second.now) }

@@ -1,4 +1,4 @@
-//! Two frames of one size, compared: how far their planes are apart, and where they first differ.
+//! Compares two frames of the same size: squared errors and the first pixel that differs.
 ghost use Rattle.std.specs.Prelude.{◌≡◌, ◌<◌, ◌↔◌, IfSome, IsNone, Some, option_map};
 ghost use Rattle.v_frame.specs.Prelude.{height_of, pixel_at, table_of, tables_of, width_of};
 ghost use Rattle.v_frame_planar.specs.Planar.{size_of, sizes_of};
@@ -10,7 +10,8 @@ use v_frame::plane::{Plane, RowsRef};
 use v_frame_formats::{Component, PixelDifference, PlaneSums};
 use v_frame_ops::rows::{first_difference, sum_of_squared_errors};
 
-/// Returns the sums, plane by plane, of the squares of the differences of the pixels. They are exact, and never too large.
+/// Returns the sum of the squared differences of the pixels of two frames, one sum for each plane. The sums are exact, since
+/// they cannot overflow.
 pub(crate) fn squared_errors_of_frames<T: Pixel>(first: &Frame<T>, second: &Frame<T>) -> PlaneSums
     requires { sizes_of (tables_of first.now) ≡ sizes_of (tables_of second.now) }
     ensures y { result.y ≡ plane_errors T.form.value (tables_of first.now).y
@@ -27,8 +28,8 @@ pub(crate) fn squared_errors_of_frames<T: Pixel>(first: &Frame<T>, second: &Fram
     }
 }
 
-/// Returns the first pixel, plane after plane and in each row after row from the top, that differs. `None` exactly where the
-/// frames show the same.
+/// Returns the first pixel that differs between two frames. The planes are searched in the order Y, U, V, and each plane row by
+/// row from the top. Returns `None` exactly if the frames show the same picture.
 pub(crate) fn first_difference_of_frames<T: Pixel>(
     first: &Frame<T>,
     second: &Frame<T>,
@@ -49,7 +50,7 @@ pub(crate) fn first_difference_of_frames<T: Pixel>(
     difference_of_chroma(Component::V, &first.v_plane, &second.v_plane)
 }
 
-/// Returns the sum for two planes of one size.
+/// Returns the sum of the squared differences of the pixels of two planes that have the same size.
 fn errors_of_planes<T: Pixel>(first: &Plane<T>, second: &Plane<T>) -> u128
     requires { size_of (table_of first.now) ≡ size_of (table_of second.now) }
     ensures { result ≡ plane_errors T.form.value (table_of first.now) (table_of second.now) }
@@ -60,7 +61,7 @@ fn errors_of_planes<T: Pixel>(first: &Plane<T>, second: &Plane<T>) -> u128
     )
 }
 
-/// Returns the sum for two chroma planes, where they are there.
+/// Returns the sum of the squared differences of the pixels of two chroma planes, or `None` if the planes are absent.
 fn errors_of_chroma<T: Pixel>(first: &Option<Plane<T>>, second: &Option<Plane<T>>) -> Option<u128>
     requires { option_map size_of (option_map table_of first.now)
         ≡ option_map size_of (option_map table_of second.now) }
@@ -73,7 +74,7 @@ fn errors_of_chroma<T: Pixel>(first: &Option<Plane<T>>, second: &Option<Plane<T>
     }
 }
 
-/// Returns the first pixel that differs in two planes of one size.
+/// Returns the first pixel that differs between two planes of the same size.
 fn difference_of_planes<T: Pixel>(
     component: Component,
     first: &Plane<T>,
@@ -97,7 +98,7 @@ fn difference_of_planes<T: Pixel>(
     })
 }
 
-/// Returns the first pixel that differs in two chroma planes, where they are there.
+/// Returns the first pixel that differs between two chroma planes, or `None` if the planes are absent.
 fn difference_of_chroma<T: Pixel>(
     component: Component,
     first: &Option<Plane<T>>,
@@ -117,7 +118,7 @@ fn difference_of_chroma<T: Pixel>(
     }
 }
 
-/// Returns the value of a pixel.
+/// Returns the value of the pixel in column `x` and row `y`.
 fn value_at<T: Pixel>(rows: &RowsRef<'_, T>, x: usize, y: usize) -> u16
     requires wide { x < width_of rows.now }
     requires high { y < height_of rows.now }

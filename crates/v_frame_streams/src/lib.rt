@@ -1,7 +1,9 @@
-//! Streams of frames, from the bytes that are read to the bytes that are written: copied, in another format too, compared and
-//! counted, over any reader and any writer.
+//! Reads, writes, copies, converts and compares video streams, over any reader and any writer.
 //!
-//! Our own. `Rattle.v_frame_streams.specs.Prelude` has the words for clauses.
+//! [`Source`] reads a YUV4MPEG2 stream or headerless raw video, and [`Sink`] writes one. [`copy_stream`] copies a stream and
+//! can crop, halve and convert its frames. [`compare_streams`] compares two streams frame by frame.
+//!
+//! The module `Rattle.v_frame_streams.specs.Prelude` re-exports the definitions that contracts cite.
 #![tactic(auto)]
 
 mod alike;

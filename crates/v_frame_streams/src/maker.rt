@@ -1,4 +1,4 @@
-//! What is made of each frame before it is written: a part of it, at full or half size, and that in another format.
+//! Edits each frame before it is written: crop, halving and conversion to another format.
 ghost use Rattle.std.specs.Prelude.{◌≡◌, if◌then◌else◌, option_map, true, IfErr, IfOk, None, OnErr, OnOk, Some};
 ghost use Rattle.std.specs.Io.KnownBytes.{Appends};
 ghost use Rattle.v_frame.specs.Prelude.{tables_of};
@@ -25,21 +25,22 @@ use v_frame::pixel::Pixel;
 use v_frame_semi_planar::SemiPlanarFormat;
 use v_frame_y4m::{Color, StreamHeader};
 
-/// Makes what is written of frames, one after the other.
+/// Edits frames one after the other. It holds the memory for the intermediate frames.
 #[derive(Drop)]
 pub(crate) struct Maker<S: Pixel, T: Pixel> {
-    /// What is taken of each frame.
+    /// The crop and the halving.
     pub(crate) edit: Edit,
-    /// Shows that, in the format in which it is read.
+    /// The edited frame, in the format of the source.
     pub(crate) made: Frame<S>,
-    /// Shows it in the format in which it is written, where that is another one.
+    /// The edited frame in the output format, if that differs from the format of the source.
     pub(crate) converted: Option<Frame<T>>,
-    /// The semi-planar layout in which it is written, where one is asked for.
+    /// The semi-planar layout of the output, or `None` for planar frames.
     pub(crate) layout: Option<SemiPlanarFormat>,
 }
 
 impl<S: Pixel, T: Pixel> Maker<S, T> {
-    /// Returns what a copy makes of the frames of a stream, and writes with another header and in this layout.
+    /// Allocates the frames that a copy with these options needs. `there` is the header of the source, `written` the header of
+    /// the output, and `layout` the layout of the output.
     pub(crate) fn new(
         alloc: Global,
         options: &CopyOptions,
@@ -61,7 +62,7 @@ impl<S: Pixel, T: Pixel> Maker<S, T> {
         })
     }
 
-    /// Writes what it makes of a frame.
+    /// Edits `frame` and writes the result.
     pub(crate) fn write_frame<W: io::Write>(
         &mut self,
         frame: &Frame<S>,
@@ -81,7 +82,7 @@ impl<S: Pixel, T: Pixel> Maker<S, T> {
         self.write(sink)
     }
 
-    /// Shows what it makes of a frame.
+    /// Edits `frame` and keeps the result in `made` and `converted`.
     fn show(&mut self, frame: &Frame<S>)
         requires { CanMake S.BYTES T.BYTES (plan_of self.old) (sizes_of (tables_of frame.now)) }
         ensures shown { bytes_made S.form T.form self.new.layout self.new.made self.new.converted
@@ -94,7 +95,7 @@ impl<S: Pixel, T: Pixel> Maker<S, T> {
         }
     }
 
-    /// Writes what it shows.
+    /// Writes the edited frame.
     fn write<W: io::Write>(&self, sink: &mut Sink<W>) -> Result<(), StreamError>
         requires { CanLayOut S.BYTES T.BYTES self.now.layout (shape_of self.now.made)
             (option_map shape_of self.now.converted) }
@@ -113,7 +114,8 @@ impl<S: Pixel, T: Pixel> Maker<S, T> {
     }
 }
 
-/// Returns a blank frame for what is written with this header, where that has another format than there is.
+/// Returns a blank frame in the format that the header `written` describes, or `None` if the color `there` of the source has
+/// the same format.
 fn converted_frame<T: Pixel>(
     alloc: Global,
     there: Color,
@@ -137,7 +139,7 @@ fn converted_frame<T: Pixel>(
     Ok(Some(frame))
 }
 
-/// Writes a frame in a layout, or else its planar bytes.
+/// Writes a frame in the semi-planar layout `layout`, or in planar order if `layout` is `None`.
 fn write_in_layout<T: Pixel, W: io::Write>(
     sink: &mut Sink<W>,
     frame: &Frame<T>,

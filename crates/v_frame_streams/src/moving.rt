@@ -1,4 +1,4 @@
-//! Frames that are written as they were read: their bytes move through a block, and no frame is made.
+//! Copies frames unchanged: their bytes go through a block, and no frame is built.
 ghost use Rattle.std.specs.Prelude.{◌≡◌, ◌+◌, ◌-◌, ◌≤◌, ◌<◌, length, IfErr, IfOk, OnErr, OnOk};
 ghost use Rattle.v_frame_streams.specs.Breaks.{counts_of, BreaksCopy};
 ghost use Rattle.v_frame_streams.specs.Copies.{same_bytes, Carries, MovesNext, MovesSome};
@@ -14,7 +14,7 @@ use crate::source::Source;
 use crate::stream::BLOCK;
 use std::io;
 
-/// Writes so many frames as they are, or all that are left where they are fewer, and counts them.
+/// Copies at most `most` frames unchanged, up to the end of the source. Returns the number of frames written.
 pub(crate) fn move_frames<R: io::Read, W: io::Write, P: Progress>(
     source: &mut Source<R>,
     sink: &mut Sink<W>,
@@ -42,7 +42,7 @@ pub(crate) fn move_frames<R: io::Read, W: io::Write, P: Progress>(
     Ok(most)
 }
 
-/// Writes the next frame as it is. `false` where the stream stood at its end before it.
+/// Copies the next frame unchanged. Returns `false` if the source was at its end.
 fn move_frame<R: io::Read, W: io::Write>(
     source: &mut Source<R>,
     sink: &mut Sink<W>,
@@ -73,7 +73,7 @@ fn move_frame<R: io::Read, W: io::Write>(
     Ok(true)
 }
 
-/// Writes what is left of a frame after so many bytes.
+/// Copies the rest of a frame of which `before` bytes have already been copied.
 fn move_rest<R: io::Read, W: io::Write>(
     source: &mut Source<R>,
     before: usize,

@@ -1,4 +1,4 @@
-//! What is done with each two frames that are compared.
+//! A callback that receives each pair of compared frames.
 ghost use Rattle.std.specs.Prelude.{IfErr, OnOk};
 ghost use Rattle.v_frame.specs.Prelude.{tables_of, Tables};
 ghost use Rattle.v_frame_streams.specs.declared.error.StreamError.{StreamError as TheError};
@@ -9,19 +9,20 @@ use v_frame::frame::Frame;
 use v_frame::pixel::Pixel;
 use v_frame_formats::PlaneSums;
 
-/// Is shown the frames that are compared, two by two: those of pixels of one type.
+/// Receives the pairs of frames that [`compare_streams`](crate::compare_streams) compares. `T` is the pixel type of the frames.
 pub trait FrameObserver<T: Pixel> {
-    // What is so before and after two frames that show these tables were taken, with these errors. Anything, where nothing is said.
+    // Relates the observer before and after it took two frames with these tables and these sums of squared errors. By default
+    // it states nothing.
     ghost takes: { Self → Self → Tables T → Tables T → TheSums → Type 0 } = { λ _ _ _ _ _. Unit {0} };
 
-    // With which errors the observer may end a comparison. With any, where nothing is said.
+    // The errors with which the observer may end a comparison. By default it may be any error.
     ghost stops: { Self → TheError → Type 0 } = { λ _ _. Unit {0} };
 
-    /// Takes two frames that were compared, with the sums of their squared errors.
+    /// Receives two frames that were compared, and the sums of their squared errors.
     ///
     /// # Errors
     ///
-    /// Its own. The comparison then ends with this error.
+    /// Any error of the observer. The comparison then ends and returns this error.
     fn take(
         &mut self,
         first: &Frame<T>,
@@ -32,7 +33,7 @@ pub trait FrameObserver<T: Pixel> {
         ensures stopped { IfErr result (stops self.new) };
 }
 
-/// An observer that looks at nothing.
+/// An observer that ignores all frames.
 #[derive(Clone, Copy)]
 pub struct NoObserver;
 

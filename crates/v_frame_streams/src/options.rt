@@ -1,4 +1,4 @@
-//! What a copy takes of a stream, and what it makes of its frames.
+//! The options of a copy.
 
 use crate::colors::is_same_format;
 use crate::stream::Container;
@@ -6,28 +6,28 @@ use v_frame_formats::{Rectangle, VideoFormat};
 use v_frame_semi_planar::SemiPlanarFormat;
 use v_frame_y4m::{Color, Ratio, StreamHeader};
 
-/// How many pixels a picture may have where nobody says: those of 7680x4320.
+/// The default limit of luma pixels in a picture, which is the number of pixels of 7680x4320.
 pub const MAX_PIXELS: usize = 33_177_600;
 
-/// What a copy takes of a stream, and what it makes of its frames.
+/// Selects the frames that a copy reads, and how it edits them.
 #[derive(Debug, Clone, Copy, PartialEq, Eq)]
 pub struct CopyOptions {
-    /// How many frames are passed over first.
+    /// The number of frames to skip at the beginning of the stream.
     pub skip: u64,
-    /// How many frames are written then. All that are left, where it is missing.
+    /// The largest number of frames to write after that. `None` copies up to the end of the stream.
     pub count: Option<u64>,
-    /// What is taken of each picture, in pixels of luma. All of it, where it is missing.
+    /// The rectangle of each picture to keep, in luma pixels. `None` keeps the whole picture.
     pub crop: Option<Rectangle>,
-    /// Whether what is taken is written at half the size, rounded up.
+    /// Whether to halve the width and the height of the rectangle that is kept, rounded up.
     pub half: bool,
-    /// The chroma subsampling, the bit depth and the layout of the frames that are written. Where it is missing, those of the
-    /// source.
+    /// The chroma subsampling, the bit depth and the layout of the output. `None` keeps those of the source, but a YUV4MPEG2
+    /// stream always gets planar frames.
     pub format: Option<VideoFormat>,
-    /// The frame rate that the header says. That of the source, where it is missing.
+    /// The frame rate to write in the header. `None` keeps the rate of the source.
     pub frame_rate: Option<Ratio>,
-    /// The shape of a pixel that the header says. That of the source, where it is missing.
+    /// The pixel aspect ratio to write in the header. `None` keeps the ratio of the source.
     pub pixel_aspect: Option<Ratio>,
-    /// How many pixels of luma a picture may have that is made in memory.
+    /// The largest number of luma pixels that a picture held in memory may have.
     pub max_pixels: usize,
 }
 
@@ -36,7 +36,7 @@ impl CopyOptions {
     ghost use Rattle.v_frame_streams.specs.Conversions.{color_in, layout_in, layout_to};
     ghost use Rattle.v_frame_streams.specs.Copies.{is_plain};
 
-    /// Returns options by which all frames are written as they are.
+    /// Returns the options that copy all frames unchanged, with [`MAX_PIXELS`] as the limit of luma pixels.
     pub fn new() -> Self
         ensures { result ≡ record {
           skip = 0;
@@ -61,7 +61,8 @@ impl CopyOptions {
         }
     }
 
-    /// Returns whether each frame of a stream of this header and layout is written as it is, where `None` is planar.
+    /// Returns whether a copy writes each frame unchanged. `header` and `layout` describe the source, and `to` is the container
+    /// of the output. A layout of `None` is planar.
     pub fn is_plain(
         &self,
         to: Container,
@@ -76,7 +77,8 @@ impl CopyOptions {
             && is_same_format(header.color, self.color(header.color))
     }
 
-    /// Returns the semi-planar layout that frames are written in, where one is asked for.
+    /// Returns the semi-planar layout that [`format`](Self::format) requests, or `None` if it requests a planar format or is
+    /// absent.
     pub fn layout(&self) -> Option<SemiPlanarFormat>
         ensures { result ≡ layout_in self.now.format }
     {
@@ -86,8 +88,9 @@ impl CopyOptions {
         }
     }
 
-    /// Returns the semi-planar layout of what is written of frames that have this one, where `None` is planar. Without a format
-    /// it is planar in a YUV4MPEG2 stream, and the same layout in raw video.
+    /// Returns the semi-planar layout of the output, or `None` if the output is planar. `there` is the layout of the source,
+    /// and `to` the container of the output. Without a [`format`](Self::format), a YUV4MPEG2 stream gets planar frames and raw
+    /// video keeps the layout of the source.
     pub fn layout_to(
         &self,
         to: Container,
@@ -102,8 +105,8 @@ impl CopyOptions {
         }
     }
 
-    /// Returns the color of what is written of a stream of this color: the same one, with its chroma siting, where chroma format
-    /// and bit depth stay.
+    /// Returns the color that the header of the output states. `there` is the color of the source. It is returned unchanged,
+    /// with its chroma siting, if chroma subsampling and bit depth stay the same.
     pub fn color(&self, there: Color) -> Color
         ensures { result ≡ color_in self.now.format there }
     {

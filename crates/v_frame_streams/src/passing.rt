@@ -1,4 +1,4 @@
-//! Frames that are passed over: their bytes are read, and no frame is made.
+//! Skips frames: their bytes are read, and no frame is built.
 ghost use Rattle.std.specs.Prelude.{◌≡◌, ◌+◌, ◌-◌, ◌≤◌, ◌<◌, length, min, IfErr, IfOk, OnOk};
 ghost use Rattle.v_frame_planar.specs.Planar.{ConsumesSome};
 ghost use Rattle.v_frame_streams.specs.Errors.{StopsAtFrame, StopsFrame, StopsInside};
@@ -13,12 +13,12 @@ use crate::source::Source;
 use crate::stream::BLOCK;
 use std::io;
 
-/// Passes over so many frames, or over all that are left where they are fewer, and counts them. After each one `progress` is
-/// told how many they are.
+/// Reads and discards at most `most` frames, up to the end of the source. Returns the number of frames skipped. After each
+/// frame, `progress` receives the number of frames skipped so far.
 ///
 /// # Errors
 ///
-/// A [`StreamError`] with [`Problem::Stream`](crate::Problem::Stream) where a frame was not read whole.
+/// [`Problem::Stream`](crate::Problem::Stream) if a frame cannot be read whole.
 pub fn skip_frames<R: io::Read, P: Progress>(
     source: &mut Source<R>,
     most: u64,
@@ -46,7 +46,7 @@ pub fn skip_frames<R: io::Read, P: Progress>(
     Ok(most)
 }
 
-/// Passes over the next frame by blocks. `false` where the stream stood at its end before it.
+/// Skips the next frame, reading it block by block. Returns `false` if the source was at its end.
 fn skip_frame<R: io::Read>(source: &mut Source<R>, block: &mut [u8]) -> Result<bool, StreamError>
     requires { 0 < length block.old }
     ensures read { IfOk result (ReadsWhole (bytes_left R.remaining source.old)
@@ -70,7 +70,7 @@ fn skip_frame<R: io::Read>(source: &mut Source<R>, block: &mut [u8]) -> Result<b
     Ok(true)
 }
 
-/// Passes over what is left of a frame after so many bytes.
+/// Skips the rest of a frame of which `before` bytes have already been read.
 fn skip_rest<R: io::Read>(
     source: &mut Source<R>,
     before: usize,

@@ -1,4 +1,4 @@
-//! A frame that each frame of a stream is read into, one after the other.
+//! A frame that is reused for each frame of a stream.
 ghost use Rattle.std.specs.Prelude.{◌≡◌, ◌↔◌, ◌≤◌, ◌<◌, ◌+◌, ◌*◌, option_map, Err, IfErr, IfOk, IfSome, IsErrAnd, IsOkUnless, IsTrue, MatchOption};
 ghost use Rattle.v_frame.specs.Prelude.{table_of, tables_of};
 ghost use Rattle.v_frame_planar.specs.Planar.{sizes_of};
@@ -31,21 +31,25 @@ use v_frame_planar::{planar_len, show_planar_bytes, video_frame};
 use v_frame_semi_planar::{SemiPlanarFormat, show_semi_planar_bytes};
 use v_frame_y4m::Color;
 
-/// A frame that is read again and again, and room for its bytes.
+/// A frame that is reused for each frame of a stream, with a buffer for the bytes of one frame.
 #[derive(Drop)]
 pub struct Picture<T: Pixel> {
-    /// The frame that was read last. What is written to it is there until the next one is read.
+    /// The frame that was read last. Changes to it last until the next frame is read.
     pub frame: Frame<T>,
     bytes: Vec<u8>,
 }
 
 impl<T: Pixel> Picture<T> {
-    /// Returns a picture for the frames of a stream, of which no more than so many pixels of luma are made in memory.
+    /// Allocates a picture for the frames of `source`. `max_pixels` is the largest number of luma pixels that a frame may have.
     ///
     /// # Errors
     ///
-    /// The first of these that holds: [`Problem::TooManyPixels`] where it has more, [`Problem::TooLarge`] where a plane can't be
-    /// addressed or the pixels have not the size of `T`, and [`Problem::OutOfMemory`] where a request for memory was refused.
+    /// The first of these that applies:
+    ///
+    /// - [`Problem::TooManyPixels`] if a frame has more than `max_pixels` luma pixels.
+    /// - [`Problem::TooLarge`] if a plane is too large for the address space, or if the bit depth of the stream does not match
+    ///   the size of `T`.
+    /// - [`Problem::OutOfMemory`] if a memory allocation fails.
     pub fn new<R: io::Read>(
         alloc: Global,
         source: &Source<R>,
@@ -93,16 +97,16 @@ impl<T: Pixel> Picture<T> {
         &self.frame
     }
 
-    /// Returns the bytes of the frame that was read last, as they were read.
+    /// Returns the bytes of the frame that was read last, in the order in which the stream has them.
     pub fn bytes(&self) -> &[u8]
         ensures { result.now ≡ self.now.bytes.items }
     {
         self.bytes.as_slice()
     }
 
-    /// Returns whether the picture can be read from a stream: whether its frame has the sizes, the chroma subsampling and the bit
-    /// depth of the stream's frames, and as many bytes. It has them where it was made for that stream, until another frame is
-    /// put in its place.
+    /// Returns whether [`read`](Self::read) can read frames of `source` into this picture: whether the sizes, the chroma
+    /// subsampling, the bit depth and the number of bytes match. They match if the picture was made for `source` and
+    /// `frame` has not been replaced.
     pub fn is_made_for<R: io::Read>(&self, source: &Source<R>) -> bool
         ensures { IsTrue result ↔ IsMadeFor T.form source.now self.now }
     {
@@ -112,14 +116,15 @@ impl<T: Pixel> Picture<T> {
             && has_sizes(&self.frame, source.header())
     }
 
-    /// Reads the next frame of a stream and shows it. `false` where the stream stood at its end before it.
+    /// Reads the next frame of `source` into `frame`. Returns `false` if `source` is at its end.
     ///
-    /// Its frames must be such as the picture's: [`is_made_for`](Self::is_made_for) is the test. They are where it was made for this
-    /// stream, or for one of the same size and color.
+    /// The picture must match the frames of `source`, which [`is_made_for`](Self::is_made_for) tests. It does if it was made
+    /// for `source`, or for a stream with the same size and color.
     ///
     /// # Errors
     ///
-    /// [`Problem::Stream`] where a frame was not read whole. After an error read no further: what came of the frame is lost.
+    /// [`Problem::Stream`] if the frame cannot be read whole. Do not read from `source` after an error: the bytes of the
+    /// incomplete frame are lost.
     pub fn read<R: io::Read>(&mut self, source: &mut Source<R>) -> Result<bool, StreamError>
         requires { IsMadeFor T.form source.old self.old }
         ensures read { IfOk result (ReadsTables T.form source.old.container source.old.frame_len
@@ -144,14 +149,15 @@ impl<T: Pixel> Picture<T> {
         Ok(true)
     }
 
-    /// Passes over so many frames of a stream, reads the next one and shows it, as `Iterator::nth` takes an item. `false` where
-    /// the stream has no more frames than those: they are read, and it stands at its end.
+    /// Skips `before` frames of `source` and reads the next frame into `frame`, like `Iterator::nth`. Returns `false` if
+    /// `source` has no frame after the skipped ones. It is then at its end.
     ///
-    /// Its frames must be such as the picture's, as for [`read`](Self::read).
+    /// The picture must match the frames of `source`, as for [`read`](Self::read).
     ///
     /// # Errors
     ///
-    /// [`Problem::Stream`] where a frame was not read whole. After an error read no further: what came of the frame is lost.
+    /// [`Problem::Stream`] if a frame cannot be read whole. Do not read from `source` after an error: the bytes of the
+    /// incomplete frame are lost.
     pub fn read_nth<R: io::Read>(
         &mut self,
         source: &mut Source<R>,
@@ -178,7 +184,7 @@ impl<T: Pixel> Picture<T> {
     }
 }
 
-/// Returns a blank frame of a size and a color, of which no more than so many pixels are made in memory.
+/// Returns a blank frame of this size and color, if it has at most `max_pixels` luma pixels.
 pub(crate) fn blank_frame<T: Pixel>(
     alloc: Global,
     width: usize,
@@ -214,7 +220,8 @@ pub(crate) fn blank_frame<T: Pixel>(
     }
 }
 
-/// Shows bytes in a frame, those of a layout or else planar ones. There must be as many as the frame has.
+/// Stores the bytes of a frame, which are in the semi-planar layout `layout` or else planar, in `frame`. The number of bytes
+/// must be that of the frame.
 fn show_frame<T: Pixel>(frame: &mut Frame<T>, bytes: &[u8], layout: Option<SemiPlanarFormat>)
     requires fills { FillsFrame T.form frame.old bytes.now }
     requires fits { FitsLayout T.form.size layout (shape_of frame.old) }
@@ -229,7 +236,8 @@ fn show_frame<T: Pixel>(frame: &mut Frame<T>, bytes: &[u8], layout: Option<SemiP
     }
 }
 
-/// Shows the bytes of a layout in a frame, which must be one for it and have as many.
+/// Stores the bytes of a frame in a semi-planar layout in `frame`. The layout must match the frame, and the number of bytes
+/// must be that of the frame.
 fn show_layout<T: Pixel>(frame: &mut Frame<T>, bytes: &[u8], layout: SemiPlanarFormat)
     requires fills { FillsFrame T.form frame.old bytes.now }
     requires fits { LayoutFits T.form.size layout (format_of frame.old) (sizes_of (tables_of frame.old)) }
@@ -243,7 +251,7 @@ fn show_layout<T: Pixel>(frame: &mut Frame<T>, bytes: &[u8], layout: SemiPlanarF
     planes_are_even(frame);
 }
 
-/// All rows of each plane of a frame are of one length.
+/// All rows of each plane of a frame have the same length.
 fn planes_are_even<T: Pixel>(frame: &Frame<T>)
     ensures { AreEven (tables_of frame.now) }
 {
@@ -252,7 +260,7 @@ fn planes_are_even<T: Pixel>(frame: &Frame<T>)
     chroma_is_even(&frame.v_plane);
 }
 
-/// The same of a chroma plane, where it is there.
+/// All rows of a chroma plane, if it is present, have the same length.
 fn chroma_is_even<T: Pixel>(plane: &Option<Plane<T>>)
     ensures { IfSome (option_map table_of plane.now) IsEven }
 {
@@ -261,10 +269,10 @@ fn chroma_is_even<T: Pixel>(plane: &Option<Plane<T>>)
     }
 }
 
-/// The same of a plane.
+/// All rows of a plane have the same length.
 fn plane_is_even<T: Pixel>(plane: &Plane<T>)
     ensures { IsEven (table_of plane.now) }
 {
-    // What the clauses of this call say is the proof.
+    // The contract of this call is the whole proof.
     let _width = plane.width();
 }

@@ -1,4 +1,4 @@
-//! What a copy makes of a stream: its header, and the edit of each frame, tested before anything is written.
+//! Plans a copy: the header of the output and the edit of each frame, checked before anything is written.
 ghost use Rattle.std.specs.Prelude.{◌≡◌, IfOk};
 ghost use Rattle.v_frame_streams.specs.Copies.{copied_extensions, copied_header, edit_of as made_by, or_else as or_else_of, taken, without_format};
 ghost use Rattle.v_frame_streams.specs.Edits.{halved_size};
@@ -11,7 +11,7 @@ use v_frame::sequence::Sequence;
 use v_frame_formats::Rectangle;
 use v_frame_y4m::{Ratio, StreamHeader};
 
-/// Returns the rectangle that a copy takes of each picture of a stream.
+/// Returns the rectangle that a copy keeps of each picture of a stream.
 pub(crate) fn rectangle_of(options: &CopyOptions, header: &StreamHeader) -> Rectangle
     ensures { result ≡ taken options.now header.now }
 {
@@ -24,7 +24,7 @@ pub(crate) fn rectangle_of(options: &CopyOptions, header: &StreamHeader) -> Rect
     options.crop.unwrap_or(whole)
 }
 
-/// Returns what a copy makes of each frame of a stream.
+/// Returns the edit that a copy applies to each frame of a stream.
 pub(crate) fn edit_of(options: &CopyOptions, header: &StreamHeader) -> Edit
     ensures { result ≡ made_by options.now header.now }
 {
@@ -35,7 +35,7 @@ pub(crate) fn edit_of(options: &CopyOptions, header: &StreamHeader) -> Edit
     )
 }
 
-/// Returns the header that a copy writes.
+/// Returns the header that a copy writes. `header` is the header of the source.
 pub(crate) fn header_of(
     alloc: Global,
     options: &CopyOptions,
@@ -55,14 +55,14 @@ pub(crate) fn header_of(
     })
 }
 
-/// Returns how many columns or rows are made of so many.
+/// Returns the number of columns or rows of the output for `size` columns or rows: half of them, rounded up, if `half` is set.
 fn size_of(size: usize, half: bool) -> usize
     ensures { result ≡ halved_size half size }
 {
     if half { size.div_ceil(2) } else { size }
 }
 
-/// Returns the ratio that is asked for, or else the one that is there.
+/// Returns the requested ratio if there is one, and the ratio of the source otherwise.
 fn or_else(asked: Option<Ratio>, there: Option<Ratio>) -> Option<Ratio>
     ensures { result ≡ or_else_of asked there }
 {
@@ -72,8 +72,8 @@ fn or_else(asked: Option<Ratio>, there: Option<Ratio>) -> Option<Ratio>
     }
 }
 
-/// Returns the extensions of a header that a copy writes: those that state the chroma format are left out where the copy has
-/// another color.
+/// Returns the extensions that a copy writes in its header. If the copy changes the color, extensions that state the chroma
+/// format are left out.
 fn extensions_of(
     alloc: Global,
     options: &CopyOptions,
@@ -88,7 +88,7 @@ fn extensions_of(
     Ok(leave_out_format(extensions))
 }
 
-/// Leaves out extensions that state the chroma format once more, as ffmpeg's `XYSCSS=420JPEG` does.
+/// Removes extensions that repeat the chroma format, such as `XYSCSS=420JPEG`, which ffmpeg writes.
 fn leave_out_format(extensions: Sequence<Sequence<u8>>) -> Sequence<Sequence<u8>>
     ensures { result ≡ without_format extensions }
 {
@@ -97,7 +97,7 @@ fn leave_out_format(extensions: Sequence<Sequence<u8>>) -> Sequence<Sequence<u8>
     Sequence::from(kept)
 }
 
-/// Returns the texts once more.
+/// Returns a copy of the texts.
 fn copy_of(alloc: Global, texts: &[Sequence<u8>]) -> Result<Sequence<Sequence<u8>>, AllocError>
     ensures { IfOk result (λ copy. copy ≡ texts.now) }
 {

@@ -1,17 +1,17 @@
-//! How far a call has come, told while it works.
+//! A callback for progress reports.
 ghost use Rattle.std.specs.Prelude.{ℕ, ◌+◌, ◌<◌};
 
-/// Is told how far a call has come.
+/// Receives the progress of a call while it works.
 pub trait Progress {
-    // What is so before and after a number was shown. Anything, where nothing is said.
+    // Relates the receiver before and after a number was reported. By default it states nothing.
     ghost shows: { Self → Self → ℕ → Type 0 } = { λ _ _ _. Unit {0} };
 
-    /// Takes how many frames are done.
+    /// Receives the number of frames done so far.
     fn show(&mut self, frames: u64)
         ensures { shows self.old self.new frames };
 }
 
-/// Tells that one more frame is done after so many.
+/// Reports that one more frame is done, after the first `before`.
 pub(crate) fn show_one_more<P: Progress>(progress: &mut P, before: u64)
     requires { before < u64.MAX }
     ensures { P.shows progress.old progress.new (before + 1) }
@@ -19,7 +19,7 @@ pub(crate) fn show_one_more<P: Progress>(progress: &mut P, before: u64)
     progress.show(before + 1);
 }
 
-/// Tells nobody.
+/// Ignores all progress reports.
 #[derive(Clone, Copy)]
 pub struct Silent;
 

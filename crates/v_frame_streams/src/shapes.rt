@@ -1,4 +1,4 @@
-//! Whether a frame has the sizes and the format that a stream has.
+//! Tests whether a frame has the sizes and the format of a stream.
 ghost use Rattle.std.specs.Prelude.{◌≡◌, ◌↔◌, IsTrue, option_map};
 ghost use Rattle.v_frame.specs.Prelude.{table_of, tables_of};
 ghost use Rattle.v_frame_planar.specs.Planar.{size_of, sizes_of};
@@ -13,7 +13,8 @@ use v_frame::plane::Plane;
 use v_frame_planar::chroma_size;
 use v_frame_y4m::{Color, StreamHeader};
 
-/// Returns whether a frame has the chroma subsampling and the bit depth of a color, and pixels of as many bytes.
+/// Returns whether a frame has the chroma subsampling and the bit depth of a color, and whether its pixel type has the right
+/// size for that depth.
 pub(crate) fn has_format<T: Pixel>(frame: &Frame<T>, color: Color) -> bool
     ensures { IsTrue result ↔ (format_of frame.now ≡ format_in color)
         × (T.form.size ≡ pixel_bytes (depth_of color)) }
@@ -23,7 +24,7 @@ pub(crate) fn has_format<T: Pixel>(frame: &Frame<T>, color: Color) -> bool
     frame.subsampling == color.subsampling() && frame.bit_depth.get() == depth && T::BYTES == pixel
 }
 
-/// Returns whether the planes of a frame have the sizes that a header says.
+/// Returns whether the planes of a frame have the sizes that a header states.
 pub(crate) fn has_sizes<T: Pixel>(frame: &Frame<T>, header: &StreamHeader) -> bool
     ensures { IsTrue result ↔ (sizes_of (tables_of frame.now) ≡ sizes_in header.now) }
 {
@@ -33,7 +34,7 @@ pub(crate) fn has_sizes<T: Pixel>(frame: &Frame<T>, header: &StreamHeader) -> bo
         && has_chroma_size(&frame.v_plane, chroma)
 }
 
-/// Returns whether a chroma plane has this size, or is absent where there is none.
+/// Returns whether a chroma plane has this size. If `size` is `None`, the plane must be absent.
 fn has_chroma_size<T: Pixel>(plane: &Option<Plane<T>>, size: Option<(usize, usize)>) -> bool
     ensures { IsTrue result ↔ (option_map size_of (option_map table_of plane.now) ≡ size) }
 {

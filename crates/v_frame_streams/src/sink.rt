@@ -1,4 +1,4 @@
-//! Streams that are written: the header, and then frame by frame.
+//! Streams that are written: the header first, then frame by frame.
 ghost use Rattle.std.specs.Prelude.{◌≡◌, ◌↔◌, ◌++◌, [], length, take, true, IfErr, IsTrue, OnErr, OnOk};
 ghost use Rattle.std.specs.Io.KnownBytes.{Appends};
 ghost use Rattle.v_frame.specs.Prelude.{tables_of};
@@ -20,14 +20,14 @@ use v_frame_planar::{Counted, PlanarError, WriteFault};
 use v_frame_semi_planar::{SemiPlanarError, SemiPlanarFormat, write_frame};
 use v_frame_y4m::{StreamHeader, Y4mError, write_header};
 
-/// A stream that is written.
+/// A stream that is written, frame by frame.
 #[derive(Drop)]
 pub struct Sink<W> {
-    /// How it holds its frames.
+    /// The container of the stream.
     pub container: Container,
-    /// How many frames were written whole. It saturates at `u64::MAX`.
+    /// The number of frames written whole. It saturates at `u64::MAX`.
     pub frames: u64,
-    /// Where its bytes go.
+    /// The writer that receives the bytes.
     pub writer: Counted<W>,
 }
 
@@ -47,18 +47,20 @@ impl<W: io::Write> Sink<W> {
         }
     }
 
-    /// Returns whether a header can be written to it: raw video has none, and else [`StreamHeader::is_writable`] tells.
+    /// Returns whether [`write_header`](Self::write_header) can write this header. Raw video has no header line and accepts any
+    /// header. For a YUV4MPEG2 stream, [`StreamHeader::is_writable`] decides.
     pub fn takes_header(&self, header: &StreamHeader) -> bool
         ensures { IsTrue result ↔ TakesHeader self.now header.now }
     {
         self.container == Container::Raw || header.is_writable()
     }
 
-    /// Writes the header line, where the container has one. [`takes_header`](Self::takes_header) is the test of what this asks.
+    /// Writes the header line of a YUV4MPEG2 stream. Raw video has none, and nothing is written. The header must be writable,
+    /// which [`takes_header`](Self::takes_header) tests.
     ///
     /// # Errors
     ///
-    /// [`Problem::Stream`] with the errors of [`write_header`]. A beginning of the line was then written.
+    /// [`Problem::Stream`] with an error of [`write_header`]. Part of the line may have been written.
     pub fn write_header(&mut self, alloc: Global, header: &StreamHeader) -> Result<(), StreamError>
         requires { TakesHeader self.old header.now }
         ensures ok { OnOk result (Appends (W.contents self.old.writer.inner)
@@ -76,11 +78,11 @@ impl<W: io::Write> Sink<W> {
         }
     }
 
-    /// Writes a frame, with the line in front of it where the container has one.
+    /// Writes the planes of `frame` one after the other. In a YUV4MPEG2 stream, the `FRAME` line comes first.
     ///
     /// # Errors
     ///
-    /// [`Problem::Stream`] with the errors of [`v_frame_planar::write_frame`]. A beginning of the frame was then written.
+    /// [`Problem::Stream`] with an error of [`v_frame_planar::write_frame`]. Part of the frame may have been written.
     pub fn write_frame<T: Pixel>(&mut self, frame: &Frame<T>) -> Result<(), StreamError>
         ensures ok { OnOk result (Appends (W.contents self.old.writer.inner)
             (W.contents self.new.writer.inner)
@@ -109,11 +111,12 @@ impl<W: io::Write> Sink<W> {
         }
     }
 
-    /// Writes a frame in a semi-planar layout. [`check_layout`](v_frame_semi_planar::check_layout) is the test of what this asks.
+    /// Writes a frame in a semi-planar layout. The layout must fit the frame, which
+    /// [`check_layout`](v_frame_semi_planar::check_layout) tests.
     ///
     /// # Errors
     ///
-    /// [`Problem::Stream`] with the errors of [`v_frame_semi_planar::write_frame`]. A beginning of the frame was then written.
+    /// [`Problem::Stream`] with an error of [`v_frame_semi_planar::write_frame`]. Part of the frame may have been written.
     pub(crate) fn write_layout<T: Pixel>(
         &mut self,
         frame: &Frame<T>,
@@ -139,7 +142,7 @@ impl<W: io::Write> Sink<W> {
         }
     }
 
-    /// Writes what stands in front of the bytes of a frame.
+    /// Writes the line in front of a frame, if the container has one.
     pub(crate) fn begin_frame(&mut self) -> Result<(), StreamError>
         ensures ok { OnOk result (Appends (W.contents self.old.writer.inner)
             (W.contents self.new.writer.inner) (frame_line self.old.container)) }
@@ -153,7 +156,7 @@ impl<W: io::Write> Sink<W> {
         }
     }
 
-    /// Writes bytes of a frame.
+    /// Writes some bytes of a frame.
     pub(crate) fn write_part(&mut self, bytes: &[u8]) -> Result<(), StreamError>
         ensures ok { OnOk result (Appends (W.contents self.old.writer.inner)
             (W.contents self.new.writer.inner) bytes.now) }
@@ -176,7 +179,7 @@ impl<W: io::Write> Sink<W> {
         self.frames = self.frames.saturating_add(1);
     }
 
-    /// Returns the error at the next frame.
+    /// Returns an error at the next frame.
     fn stopped(&self, error: Y4mError) -> StreamError
         ensures place { IsAtNextWritten self.now result }
         ensures problem { result.problem ≡ Problem.Stream error }

@@ -1,4 +1,4 @@
-//! Streams that are read: the header, and then frame by frame.
+//! Streams that are read: the header first, then frame by frame.
 ghost use Rattle.std.specs.Prelude.{◌≡◌, ◌<◌, IfErr, IfOk, MatchResult};
 ghost use Rattle.std.specs.Io.Buffered.{reader_remaining};
 ghost use Rattle.v_frame_y4m.specs.Frames.{frame_byte_count};
@@ -18,7 +18,7 @@ use v_frame_planar::{Counted, PlanarError, read_until_full};
 use v_frame_semi_planar::SemiPlanarFormat;
 use v_frame_y4m::{StreamHeader, Y4mError, read_lax_frame_line, read_lax_header};
 
-/// A stream that is read, of which the header is known.
+/// A stream that is read, frame by frame. Its header is already known.
 #[derive(Drop)]
 pub struct Source<R> {
     place: Place,
@@ -43,12 +43,16 @@ impl<R: io::Read> Source<R> {
     ghost use Rattle.v_frame_streams.specs.Sources.{bytes_left, stream_of, unread_of, IsOpened};
     ghost use Rattle.v_frame_streams.specs.Streams.{frames_after, ReadsLine, ReadsNext};
 
-    /// Reads the header line of a YUV4MPEG2 stream, or one that stands for it. Its frames are left to be read.
+    /// Opens a YUV4MPEG2 stream: reads the header line, strict or lax, and leaves the frames to be read.
+    ///
+    /// Errors of this stream report `place` as the stream in which they happened. The reader is buffered, so more bytes than
+    /// the header line may be read from it.
     ///
     /// # Errors
     ///
-    /// [`Problem::Stream`] with the errors of [`read_lax_header`], [`Problem::TooLarge`] where a frame has no byte, or more than
-    /// `usize::MAX`, and [`Problem::OutOfMemory`] where a request for memory was refused.
+    /// - [`Problem::Stream`] with an error of [`read_lax_header`] if the header line cannot be read.
+    /// - [`Problem::TooLarge`] if a frame has no bytes, or more than `usize::MAX`.
+    /// - [`Problem::OutOfMemory`] if a memory allocation fails.
     pub fn y4m(alloc: Global, place: Place, reader: R) -> Result<Self, StreamError>
     where
         R: Drop,
@@ -74,13 +78,18 @@ impl<R: io::Read> Source<R> {
         })
     }
 
-    /// Takes headerless raw video, whose frames are as this header says, in a semi-planar layout or else planar. Nothing is read.
+    /// Opens headerless raw video. `header` describes its frames, and `layout` is their semi-planar layout, or `None` if they
+    /// are planar. Nothing is read.
+    ///
+    /// Errors of this stream report `place` as the stream in which they happened.
     ///
     /// # Errors
     ///
-    /// The first of these that holds: [`Problem::OtherLayout`] where the layout is for another chroma subsampling or bit depth than
-    /// the header says, [`Problem::TooLarge`] where a frame has no byte, or more than `usize::MAX`, and [`Problem::OutOfMemory`]
-    /// where a request for memory was refused.
+    /// The first of these that applies:
+    ///
+    /// - [`Problem::OtherLayout`] if the chroma subsampling or the bit depth of `layout` differs from that of `header`.
+    /// - [`Problem::TooLarge`] if a frame has no bytes, or more than `usize::MAX`.
+    /// - [`Problem::OutOfMemory`] if a memory allocation fails.
     pub fn raw(
         alloc: Global,
         place: Place,
@@ -128,14 +137,15 @@ impl<R: io::Read> Source<R> {
         &self.header
     }
 
-    /// Returns whether the header line was not strict, but stood for one that is. The lines in front of frames are not told of.
+    /// Returns whether the header line was lax: not in the strict form, but with a clear meaning. The lines in front of frames
+    /// are not considered.
     pub fn is_lax(&self) -> bool
         ensures { result ≡ self.now.is_lax }
     {
         self.is_lax
     }
 
-    /// Returns the semi-planar layout of the frames. `None` where they are planar.
+    /// Returns the semi-planar layout of the frames, or `None` if they are planar.
     pub fn layout(&self) -> Option<SemiPlanarFormat>
         ensures value { result ≡ self.now.layout }
         ensures holds { HoldsColor result self.now.header.color }
@@ -143,7 +153,7 @@ impl<R: io::Read> Source<R> {
         self.layout
     }
 
-    /// Returns how many bytes a frame has.
+    /// Returns the number of bytes of a frame, without the line in front of it.
     pub fn frame_len(&self) -> usize
         ensures value { result ≡ self.now.frame_len }
         ensures some { 0 < result }
@@ -151,14 +161,14 @@ impl<R: io::Read> Source<R> {
         self.frame_len
     }
 
-    /// Returns how the stream holds its frames.
+    /// Returns the container of the stream.
     pub fn container(&self) -> Container
         ensures { result ≡ self.now.container }
     {
         self.container
     }
 
-    /// Returns how many frames were read whole. It saturates at `u64::MAX`.
+    /// Returns the number of frames read whole, skipped frames included. It saturates at `u64::MAX`.
     pub fn frames(&self) -> u64
         ensures { result ≡ self.now.frames }
     {
@@ -175,8 +185,8 @@ impl<R: io::Read> Source<R> {
         self.frames = self.frames.saturating_add(1);
     }
 
-    /// Reads the line in front of the next frame, where the container has one, and then so many bytes of the frame as `front`
-    /// has, which is not empty and no longer than a frame. `false` where the stream stood at its end before it.
+    /// Reads the line in front of the next frame, if the container has one, and then fills `front` with the first bytes of the
+    /// frame. `front` is not empty and no longer than a frame. Returns `false` if the stream was at its end.
     pub(crate) fn begin_frame(&mut self, front: &mut [u8]) -> Result<bool, StreamError>
         requires some { 0 < length front.old }
         requires within { length front.old ≤ self.old.frame_len }
@@ -212,7 +222,7 @@ impl<R: io::Read> Source<R> {
         }
     }
 
-    /// Reads the next bytes of a frame, after so many.
+    /// Fills `part` with the next bytes of a frame of which `before` bytes have been read.
     pub(crate) fn read_part(&mut self, before: usize, part: &mut [u8]) -> Result<(), StreamError>
         requires { before + length part.old ≤ self.old.frame_len }
         ensures read { OnOk result (Consumes (bytes_left R.remaining self.old)
@@ -232,7 +242,7 @@ impl<R: io::Read> Source<R> {
         Ok(())
     }
 
-    /// Reads the line in front of a frame, or one that stands for it. `false` where the stream stood at its end before it.
+    /// Reads the line in front of a frame, strict or lax. Returns `false` if the stream was at its end.
     fn read_line(&mut self) -> Result<bool, StreamError>
         ensures read { IfOk result (ReadsLine (bytes_left R.remaining self.old)
             (bytes_left R.remaining self.new)) }
@@ -250,7 +260,7 @@ impl<R: io::Read> Source<R> {
         }
     }
 
-    /// Fills a buffer, and returns how much of it was filled before the stream came to its end.
+    /// Reads until `part` is full or the stream ends, and returns the number of bytes read.
     fn fill(&mut self, part: &mut [u8]) -> Result<usize, StreamError>
         ensures bound { IfOk result (λ found. found ≤ length part.new) }
         ensures read { IfOk result (λ found. Consumes (bytes_left R.remaining self.old)
@@ -271,7 +281,7 @@ impl<R: io::Read> Source<R> {
         }
     }
 
-    /// Returns the error of a stream that came to its end inside a frame.
+    /// Returns the error of a stream that ended inside a frame, of which `found` bytes were read.
     fn truncated(&self, found: usize) -> StreamError
         ensures place { IsAtNextFrame self.now result }
         ensures problem { result.problem ≡ Problem.Stream (Planar (Truncated self.now.frame_len found)) }
@@ -282,7 +292,7 @@ impl<R: io::Read> Source<R> {
         }))
     }
 
-    /// Returns the error of a next frame that was not read.
+    /// Returns the error of a next frame that could not be read.
     fn stopped(&self, error: Y4mError) -> StreamError
         ensures place { IsAtNextFrame self.now result }
         ensures problem { result.problem ≡ Problem.Stream error }
@@ -290,7 +300,7 @@ impl<R: io::Read> Source<R> {
         self.refused(Problem::Stream(error))
     }
 
-    /// Returns the error where the next frame can't be taken for this reason.
+    /// Returns an error at the next frame, which cannot be processed because of `problem`.
     pub(crate) fn refused(&self, problem: Problem) -> StreamError
         ensures place { IsAtNextFrame self.now result }
         ensures problem { result.problem ≡ problem }
@@ -299,7 +309,7 @@ impl<R: io::Read> Source<R> {
     }
 }
 
-/// Reads the header line of a stream, or one that stands for it, and tells whether it was another one than that.
+/// Reads the header line of a stream, strict or lax. The second part of the result is true if the line was lax.
 fn read_header<R: io::Read>(
     alloc: Global,
     place: Place,
@@ -322,7 +332,7 @@ fn read_header<R: io::Read>(
     }
 }
 
-/// Returns how many bytes each frame of a stream has.
+/// Returns the number of bytes of each frame of a stream.
 fn frame_len_of(place: Place, header: &StreamHeader) -> Result<usize, StreamError>
     ensures counted { MatchResult result (λ len. (len ≡ frame_byte_count header.now) × HasLength header.now)
         (λ error. (error.problem ≡ Problem.TooLarge) × ¬ (HasLength header.now)) }
@@ -334,7 +344,7 @@ fn frame_len_of(place: Place, header: &StreamHeader) -> Result<usize, StreamErro
     }
 }
 
-/// Puts a buffer in front of a reader, so that a line takes no call of the system for each of its bytes.
+/// Puts a buffer in front of a reader, so that reading a line does not take one system call for each byte.
 fn buffered<R: io::Read + Drop>(
     alloc: Global,
     place: Place,

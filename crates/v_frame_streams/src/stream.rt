@@ -1,24 +1,24 @@
-//! What a stream is.
+//! Containers of streams, and the streams that a call works on.
 
-/// How many bytes move at once where no frame is made. They are on the stack, of which a program may have little.
+/// The number of bytes that are moved at once if no frame is built. The block is on the stack, which may be small.
 pub(crate) const BLOCK: usize = 16384;
 
-/// How a stream holds its frames.
+/// How a stream stores its frames.
 #[derive(Debug, Clone, Copy, PartialEq, Eq)]
 pub enum Container {
-    /// A header line, and a line before each frame.
+    /// YUV4MPEG2: a header line, and a line in front of each frame.
     Y4m,
-    /// The bytes of the frames alone.
+    /// Raw video: only the bytes of the frames.
     Raw,
 }
 
-/// Which of the streams that a call works on.
+/// Identifies one of the streams that a call works on.
 #[derive(Debug, Clone, Copy, PartialEq, Eq)]
 pub enum Place {
-    /// The first one that it reads.
+    /// The first input.
     First,
-    /// The second one that it reads.
+    /// The second input.
     Second,
-    /// The one that it writes.
+    /// The output.
     Output,
 }

@@ -1,4 +1,5 @@
--- A header that was read from a line can be written: its extensions have no space and no line feed.
+-- A header that was read from a line can be written: its extensions contain no space and no line
+-- feed.
 use Rattle.std.proofs.Common.{ℕ, ◌≡◌, ◌≢◌, List, [], ◌∷◌, Bool, true, false, cond, map, refl, subst}
 use Rattle.std.specs.Prelude.{nat_eq}
 use Rattle.std.specs.List.{AllByRecursion, onto_first}
@@ -8,7 +9,7 @@ use Rattle.v_frame_y4m.specs.Header.{of_letter, pieces, IsHeader, IsPiece, IsWri
 use Rattle.v_frame_y4m.specs.Streams.{IsLine}
 use Rattle.v_frame_y4m.specs.declared.header.StreamHeader.{StreamHeader}
 
--- a byte of a piece of a line that has such bytes
+-- A property of the bytes of a piece, given a property of the bytes of its line.
 abbrev pub InPiece : (ℕ → Type 0) → ℕ → Type 0
 InPiece P x = P x × (nat_eq x 32 ≡ false)
 

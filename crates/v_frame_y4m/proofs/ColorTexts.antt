@@ -1,4 +1,5 @@
--- Where each color stands among those that a parameter says, and that no two are spelled alike.
+-- The position of each color in the list of colors that a parameter can state. No two colors are
+-- spelled alike.
 use Rattle.std.proofs.Common.{ℕ, ◌≡◌, ◌≢◌, ◌+◌, ◌<◌, ◌≤◌, List, [], ◌∷◌, drop, get_or, cond, refl, sym, ◌∙◌, ap, subst}
 use Rattle.std.proofs.Common.{rules, arith}
 use Rattle.std.specs.Prelude.{Option, Some, None, unwrap_or}
@@ -79,12 +80,12 @@ ranked (MonoHighDepth Twelve) w is = refl
 ranked (MonoHighDepth Fourteen) w is = refl
 ranked (MonoHighDepth Sixteen) w is = refl
 
--- the color that a text spells, for the proof alone
+-- The color that a text spells. Only proofs use it.
 abbrev pub spelled_by : List ℕ → List Color → Color
 spelled_by text [] = Unstated
 spelled_by text (c ∷ cs) = cond (bytes_eq (color_text c) text) c (spelled_by text cs)
 
--- the color that the parameters of its letter say
+-- The color that the parameters of its letter state.
 abbrev pub said_by : List (List ℕ) → Color
 said_by parameters = spelled_by (drop 1 (get_or parameters 0 [])) STATED
 
@@ -123,7 +124,7 @@ pub one_color : (c d : Color) → parameter_of 67 color_text (stated c) ≡ para
     d
 one_color c d same = sym (said_again c) ∙ ap said_by same ∙ said_again d
 
--- what a parameter says is said by it
+-- A color that a parameter states is stated as itself.
 pub stated_is : (c d : Color) → stated c ≡ Some d → stated d ≡ Some d
 stated_is Unstated d said = absurd (none_is_not_some d said)
 stated_is Yuv420 d said = subst (λ (x : Color). stated x ≡ Some x)
@@ -151,7 +152,7 @@ stated_is (Yuv444HighDepth depth) d said = subst (λ (x : Color). stated x ≡ S
 stated_is (MonoHighDepth depth) d said = subst (λ (x : Color). stated x ≡ Some x)
     (ap (λ (o : Option Color). unwrap_or o Unstated) said) refl
 
--- a color that is spelled so is not the one at hand, and stands after it
+-- If a text does not spell the current color, its color comes later in the list.
 pub further : (text : List ℕ) (i : ℕ) (w c : Color) → ¬ (text ≡ color_text (get_or STATED i w)) → stated c ≡ Some c →
     text ≡ color_text c → i ≤ rank c
     → i + 1 ≤ rank c

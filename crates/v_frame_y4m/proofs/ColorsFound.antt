@@ -1,4 +1,4 @@
--- The color that is found for a format, a bit depth and a siting.
+-- The color with a chroma subsampling, a bit depth and a siting.
 use Rattle.std.proofs.Common.{ℕ, ◌≡◌, ◌≢◌, refl, sym, ◌∙◌, ap, subst, rules, arith}
 use Rattle.std.proofs.lemmas.Grind.{common_steps}
 use Rattle.std.specs.Prelude.{Bool, true, false, ◌==◌, if◌then◌else◌, IfSome, Option, Some, None, unwrap_or}
@@ -15,7 +15,7 @@ use Rattle.v_frame_y4m.specs.declared.color.Color.TheVariants.{Unstated, Yuv420,
 use Rattle.v_frame_y4m.specs.declared.color.Color.TheVariants.{Yuv411, Yuv422, Yuv444, Mono, Yuv420HighDepth}
 use Rattle.v_frame_y4m.specs.declared.color.Color.TheVariants.{Yuv422HighDepth, Yuv444HighDepth, MonoHighDepth}
 
--- a color has these three
+-- A color has this subsampling, this bit depth and this siting.
 abbrev pub Has : ChromaSubsampling → ℕ → Option ChromaSiting → Color → Type 0
 Has s bits siting c = (subsampling_of c ≡ s) × ((depth_of c ≡ bits) × (siting_of c ≡ siting))
 
@@ -57,7 +57,7 @@ deep_has Full bits depth (Some siting) c b is = absurd (no_none c is)
 deep_has Monochrome bits depth (Some siting) c b is = absurd (no_none c is)
 deep_has Quarter bits depth (Some siting) c b is = absurd (no_none c is)
 
--- what is found again for a color
+-- The color that is found for the properties of a color.
 abbrev usual : Color → Color
 usual Unstated = Yuv420Jpeg
 usual Yuv420 = Yuv420Jpeg

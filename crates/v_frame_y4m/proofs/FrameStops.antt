@@ -1,4 +1,4 @@
--- What a frame leaves of the reader after the line in front of it.
+-- The effect of a frame on the reader after the line in front of it.
 use Rattle.std.proofs.Common.{ℕ, ◌≡◌, ◌≤◌, ◌⊎◌, List, [], ◌∷◌, ◌++◌, length, Option, refl, sym, ◌∙◌, ap, subst, rules}
 use Rattle.std.proofs.Common.{append_assoc}
 use mathlib.Core.Logic.{inl, inr}
@@ -91,7 +91,7 @@ module _ {R : Type 0} (remaining : R → Option (List ℕ)) (old mid new : Watch
     bytes_stop error stopped = subst (MayStopInFrame remaining old new n) (sym stopped.1)
         (fault_stops stopped.0 stopped.2)
 
--- what an error says still holds where it is handed on
+-- A statement about an error still holds when the error is returned to the caller.
 pub handed_on : {X : Type 0} (P : Y4mError → Type 0) (result : Result X Y4mError) (error : Y4mError) → IsErrAnd result
     (λ given. given ≡ error)
     → P error → IfErr result P

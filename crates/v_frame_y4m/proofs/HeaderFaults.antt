@@ -1,4 +1,4 @@
--- A line that is refused says no header.
+-- A line that is rejected states no header.
 use Rattle.std.proofs.Common.{ℕ, ◌≡◌, ◌≢◌, ◌<◌, ◌≤◌, ◌⊎◌, List, [], ◌∷◌, drop, get_or, length, decimal, refl, sym, ◌∙◌}
 use Rattle.std.proofs.Common.{ap, subst, rules, arith, zero, suc, lit<}
 use mathlib.Core.Logic.{inl, inr}

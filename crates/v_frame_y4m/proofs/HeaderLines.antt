@@ -1,4 +1,4 @@
--- The line that is written for a header is a header line, and says it.
+-- The line that is written for a header is a header line, and states that header.
 use Rattle.std.proofs.Common.{ℕ, ◌≡◌, ◌≢◌, ◌<◌, ◌≤◌, ◌^◌, List, [], ◌∷◌, ◌++◌, Bool, true, false, cond, map, decimal}
 use Rattle.std.proofs.Common.{refl, sym, ◌∙◌, ap, rules, arith, lit<}
 use Rattle.std.specs.Prelude.{Option, Some, None, All, Contains, IfSome, nat_eq, slice_index}
@@ -27,11 +27,11 @@ use Rattle.v_frame_y4m.proofs.HeaderTexts.{digits_without}
 abbrev pub IsNoSpace : ℕ → Type 0
 IsNoSpace x = nat_eq x 32 ≡ false
 
--- no byte is a space
+-- No byte is a space.
 abbrev pub NoSpace : List ℕ → Type 0
 NoSpace text = All IsNoSpace text
 
--- the first byte is a letter
+-- The first byte is a letter.
 abbrev pub HasLetter : List ℕ → Type 0
 HasLetter p = Contains letters (slice_index p 0)
 
@@ -143,7 +143,7 @@ parameters_plain h size each =
     (All-append NoSpace cs xs (optional_plain 67 color_text (stated h.color) refl (colors_plain (stated h.color)))
     (extensions_plain h.extensions each))))))
 
--- a line is cut at its spaces into what was joined by them
+-- Splitting a line at its spaces gives the pieces that were joined.
 pub cut_again : (front : List ℕ) → NoSpace front → (ps : List (List ℕ)) → AllByRecursion NoSpace ps → pieces
     (front ++ spelled ps) ≡ front ∷ ps
 cut_again front none [] each = ap pieces (append-nil front) ∙ slice_split_none (λ x. nat_eq x 32) front none
@@ -155,7 +155,7 @@ pub joined_again : (front : List ℕ) (ps : List (List ℕ)) → join_with_byte 
 joined_again front [] = sym (append-nil front)
 joined_again front (p ∷ ps) = ap (λ (rest : List ℕ). front ++ 32 ∷ rest) (joined_again p ps)
 
--- the parameters of one letter among those of another
+-- The parameters of one letter among those of another.
 cond_same : {A : Type 0} (b : Bool) (x : A) → x ≡ cond b x x
 cond_same true x = refl
 cond_same false x = refl
@@ -200,7 +200,7 @@ module _ (h : StreamHeader) where
   abbrev pub e : List (List ℕ)
   e = map (λ (text : List ℕ). 88 ∷ text) h.extensions
 
-  -- those of a letter after W and H
+  -- The parameters of a letter after W and H.
   behind : (l : ℕ) → of_letter l (a ++ (b ++ (c ++ (d ++ e)))) ≡ cond (nat_eq 70 l) a [] ++
       (cond (nat_eq 73 l) b [] ++ (cond (nat_eq 65 l) c [] ++ (cond
       (nat_eq 67 l) d [] ++ cond (nat_eq 88 l) e [])))
@@ -271,7 +271,7 @@ module _ (h : StreamHeader) where
     size = size;
   }
 
-  -- parameters in order that say this are those that are written
+  -- Parameters in the order of the writer that state a header are those that are written for it.
   pub in_order_is_written : (ps : List (List ℕ)) → Says ps h → IsInOrder ps → ps ≡ parameters_of h
   in_order_is_written ps says order =
       order

@@ -1,4 +1,4 @@
--- A line that begins as a header, and what its parameters say.
+-- A line that begins like a header, and the contents of its parameters.
 use Rattle.std.proofs.Common.{ℕ, ◌≡◌, ◌<◌, ◌-◌, List, [], ◌∷◌, drop, get_or, length, length-drop, take, take_all, sym}
 use Rattle.std.proofs.Common.{◌∙◌, ap, arith}
 use mathlib.Core.Logic.{inr}

@@ -1,4 +1,4 @@
--- A line says one header.
+-- A line states one header.
 use Rattle.std.proofs.Common.{ℕ, ◌≡◌, ◌<◌, ◌^◌, List, [], ◌∷◌, false, cond, drop, get_or, length, map, decimal, refl}
 use Rattle.std.proofs.Common.{sym, ◌∙◌, ap, rules, arith}
 use Rattle.std.specs.Prelude.{Option, Some, None, All, IfSome, nat_eq}
@@ -19,11 +19,11 @@ use Rattle.v_frame_y4m.specs.declared.header.StreamHeader.{StreamHeader}
 use Rattle.v_frame_y4m.proofs.ColorTexts.{one_color}
 use Rattle.v_frame_y4m.proofs.NumberTexts.{own}
 
--- the text after the letter of the first parameter
+-- The text after the letter of the first parameter.
 abbrev pub text_of : List (List ℕ) → List ℕ
 text_of parameters = drop 1 (get_or parameters 0 [])
 
--- no digit is another byte
+-- A byte that is not a digit does not occur in a number.
 pub digits_without : (n c : ℕ) → n < 2 ^ 64 → ¬ (IsInRange 48 57 c) → All (λ x. nat_eq x c ≡ false) (decimal n)
 digits_without n c small other = All-from_get_or (λ x. nat_eq x c ≡ false) (decimal n) 0
     (λ i within. ne_eqb _ c (not_in_digits own (decimal n) c
@@ -64,7 +64,7 @@ one_optional_ratio letter None (Some q) af bf same = absurd (search (rules, ap l
 one_optional_ratio letter (Some r) None af bf same = absurd (search (rules, ap length same))
 one_optional_ratio letter (Some r) (Some q) af bf same = ap Some (one_ratio r q af bf (ap text_of same))
 
--- the interlacing that the parameters of its letter say, for the proof alone
+-- The interlacing that the parameters of its letter state. Only proofs use it.
 abbrev pub interlacing_said : List (List ℕ) → Option Interlacing
 interlacing_said parameters = by_byte (get_or (text_of parameters) 0 0) where
   by_byte : ℕ → Option Interlacing

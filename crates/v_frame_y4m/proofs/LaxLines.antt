@@ -1,4 +1,4 @@
--- The strict line that a line stands for.
+-- The strict line that a line means.
 use Rattle.std.proofs.Common.{ℕ, zero, suc, ◌≡◌, ◌≢◌, ◌-◌, List, [], ◌∷◌, ◌++◌, Bool, true, false, cond, map, drop, take}
 use Rattle.std.proofs.Common.{decimal, get_or, length, refl, sym, ◌∙◌, ap, subst, append_assoc, rules, arith}
 use Rattle.std.proofs.Common.{◌<◌, ◌+◌, drop-cons}
@@ -24,11 +24,11 @@ use Rattle.v_frame_y4m.proofs.HeaderLines.{cut_again, joined_again, HasLetter, I
 abbrev pub IsFilled : List ℕ → Type 0
 IsFilled piece = is_filled piece ≡ true
 
--- no frame rate of one number
+-- The piece is not a frame rate of a single number.
 abbrev pub IsFull : List ℕ → Type 0
 IsFull piece = is_whole_rate piece ≡ false
 
--- the pieces that stay, as the format has them
+-- The pieces that are kept, in their strict form.
 abbrev pub kept_pieces : List ℕ → List (List ℕ)
 kept_pieces line = map full_rate (filter is_filled (pieces line))
 
@@ -48,7 +48,7 @@ map_full (p ∷ ps) each =
     ap (λ (b : Bool). cond b (p ++ codes ":1") p ∷ map full_rate ps) each.0
     ∙ ap (λ (rest : List (List ℕ)). p ∷ rest) (map_full ps each.1)
 
--- a line of such pieces is strict
+-- A line of such pieces is strict.
 settled : (line : List ℕ) (ps : List (List ℕ)) → pieces line ≡ ps → AllByRecursion IsFilled ps → AllByRecursion IsFull ps
     → last_byte line ≢ 13 → strict_line line ≡ join_with_byte 32 ps
 settled line ps cut filled full other =
@@ -57,7 +57,7 @@ settled line ps cut filled full other =
     ∙ ap (λ (qs : List (List ℕ)). join_with_byte 32 (map full_rate qs)) (filter_filled ps filled)
     ∙ ap (join_with_byte 32) (map_full ps full)
 
--- a header's pieces have letters, and its rate two numbers
+-- The pieces of a header have letters, and its frame rate has two numbers.
 letter_is_filled : (p : List ℕ) → HasLetter p → IsFilled p
 letter_is_filled [] known =
     let above = AllPass-from_list_all (λ x. nat_lt 0 x) letters refl in
@@ -114,7 +114,7 @@ header_is_strict line h is other =
     settled line (signature ∷ is.parameters) is.pieces (refl, filled) (refl, are_full is.parameters ratios) other
     ∙ ap (join_with_byte 32) (sym is.pieces) ∙ join_with_byte-slice_split 32 line
 
--- what holds of each byte of a line holds of each byte of its strict line
+-- A property of each byte of a line holds for each byte of its strict line.
 module _ (P : ℕ → Type 0) where
   bytes_of_pieces : (line : List ℕ) → All P line → All (All (InPiece P)) (pieces line)
   bytes_of_pieces line each = All-weaker (AllByRecursion (InPiece P)) (All (InPiece P)) (All-from_recursion (InPiece P)) (pieces line)
@@ -150,7 +150,7 @@ strict_line_is_line line ended =
     bytes_joined P (λ e. omega (arith, e)) (kept_pieces cut) (recursion_from_All (All (InPiece P)) (kept_pieces cut)
     (bytes_of_kept P (λ e. omega (arith, e)) (λ e. omega (arith, e)) cut each))
 
--- the pieces of a strict line are those of the line that stands for it
+-- The pieces of the strict line are the kept pieces of the line.
 keep_filled : (b : Bool) (p : List ℕ) (ps : List (List ℕ)) → is_filled p ≡ b → AllByRecursion IsFilled ps
     → AllByRecursion IsFilled (cond b (p ∷ ps) ps)
 keep_filled true p ps is rest = (is, rest)
@@ -200,7 +200,7 @@ strict_line_stays line other =
     (λ p. All-weaker (InPiece IsAnyByte) IsNoSpace (λ x both. both.1) p) kept bytes) in
     again kept spaces made.0 made.1 other
 
--- the line of a frame without a carriage return at its end
+-- The line in front of a frame, without a carriage return at its end.
 ends_after : (b : Bool) (rest : List ℕ) → nat_eq (last_byte (codes "FRAME " ++ rest)) 13 ≡ b
     → IsFrameLine (cond b (take (length (codes "FRAME " ++ rest) - 1) (codes "FRAME " ++ rest)) (codes "FRAME " ++ rest))
 ends_after false rest is = inr (rest, refl)
@@ -214,7 +214,7 @@ frame_line_is_lax line (inl is) = subst (λ (l : List ℕ). IsFrameLine (without
 frame_line_is_lax line (inr is) = subst (λ (l : List ℕ). IsFrameLine (without_return l)) (sym is.1)
     (ends_after (nat_eq (last_byte (codes "FRAME " ++ is.0)) 13) is.0 refl)
 
--- a line that is made piece by piece
+-- A line that is built piece by piece.
 abbrev pub made_so_far : List ℕ → List (List ℕ) → List ℕ
 made_so_far [] ps = join_with_byte 32 ps
 made_so_far (x ∷ xs) ps = x ∷ xs ++ spelled ps
@@ -252,7 +252,7 @@ module _ (made : List ℕ) (ps : List (Bor (List ℕ))) (i : ℕ) (w : Bor (List
   next_is : i + 1 ≡ suc i
   next_is = omega arith
 
-  -- a piece that is not empty is added, and an empty one is passed over
+  -- A piece that is not empty is appended, and an empty one is skipped.
   pub piece_added : (length piece ≡ 0 → ⊥)
       → made_so_far (followed_by made (full_rate piece)) (behind (i + 1)) ≡ made_so_far made (behind i)
   piece_added some =

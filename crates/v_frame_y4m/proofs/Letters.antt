@@ -1,4 +1,4 @@
--- Letters that may stand once.
+-- Letters that may occur only once.
 use Rattle.std.proofs.Common.{ℕ, ◌≡◌, ◌<◌, ◌+◌, ◌⊎◌, suc, List, drop, get_or, length, sym, subst, arith, lit<}
 use Rattle.std.specs.Prelude.{All, Contains, slice_index}
 use Rattle.std.proofs.Common.{drop-cons}
@@ -16,11 +16,11 @@ pub ratios_once : (letter : ℕ) → (letter ≡ 70) ⊎ (letter ≡ 65) → IsO
 ratios_once letter (inl e) = ((2, lit< tt, sym e), λ f. omega (arith, e, f))
 ratios_once letter (inr e) = ((4, lit< tt, sym e), λ f. omega (arith, e, f))
 
--- the first byte is a letter
+-- The first byte is a letter.
 abbrev pub HasLetter : List ℕ → Type 0
 HasLetter p = Contains letters (slice_index p 0)
 
--- what holds of one parameter and of those after it
+-- A property of one parameter and of those after it.
 pub holds_from : (P : List ℕ → Type 0) (ps : List (Bor (List ℕ))) (i : ℕ) (w : Bor (List ℕ)) → i < length ps → P
     (get_or ps i w).now
     → All P (texts_of (drop (i + 1) ps)) → All P (texts_of (drop i ps))

@@ -1,4 +1,4 @@
--- The text of a number, read as it is written.
+-- Reading the text of a number in the form in which it is written.
 use Rattle.std.proofs.Common.{ℕ, ◌≡◌, ◌≢◌, ◌<◌, ◌^◌, List, ◌∷◌, ◌++◌, length, get_or, decimal, sym, ◌∙◌, ap, refl}
 use Rattle.std.proofs.Common.{subst, rules, arith, zero, suc, lit<}
 use Rattle.std.specs.Prelude.{Option, Some, None, Result, Ok, Err, MatchOption, MatchResult}
@@ -18,7 +18,7 @@ use Rattle.v_frame_y4m.specs.declared.header.Ratio.{Ratio}
 pub own : IsNumeralModel (AllDigits 10) (digits_value 10)
 own = numerals_by_value (AllDigits 10) tells_digits
 
--- no sign, and no leading zero but in 0
+-- A number has no sign, and no leading zero except in 0.
 pub written_so : (n : ℕ) (bs : List ℕ) → n < 2 ^ 64 → bs ≡ decimal n → (get_or bs 0 0 ≢ 43) ×
     (get_or bs 0 0 ≡ 48 → length bs ≡ 1)
 written_so zero bs small is = rw (is ∙ decimal_digit 0 (lit< tt)) (λ e. omega (arith, e), λ _. refl)
@@ -43,7 +43,7 @@ ratio_is_ascii r fits = search (rules, IsAscii-append, IsAscii-decimal, IsAscii-
 colon_is_no_digit : ¬ (IsInRange 48 57 58)
 colon_is_no_digit range = omega (arith, range.1)
 
--- a ratio is cut at its colon into the two numbers
+-- A ratio is split at its colon into its two numbers.
 pub ratio_is_cut : (r : Ratio) → FitsRatio r → (bs : List ℕ) → bs ≡ ratio_text r →
     (cut : Option (Bor (List ℕ) × Bor (List ℕ)))
     → IsSplitOnceResult 58 bs cut → MatchOption cut ⊥

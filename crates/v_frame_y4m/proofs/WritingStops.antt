@@ -1,4 +1,4 @@
--- A writer that gave up at a line or after it has a beginning of all bytes.
+-- A writer that fails in a line or after it has received a beginning of all bytes.
 use Rattle.std.proofs.Common.{ℕ, ◌≡◌, ◌+◌, List, ◌++◌, length, take, Option, sym, ◌∙◌, subst, arith, length-append}
 use Rattle.std.proofs.lemmas.List.{take-append-le}
 use Rattle.std.proofs.Math.Seq.{take-append-add}
@@ -37,13 +37,13 @@ module _ (front rest : List ℕ) where
       )
 
   module _ {W : Type 0} (contents : W → Option (List ℕ)) (old mid new : Watched W) where
-    -- the line was not written whole
+    -- The line was not written whole.
     pub stops_in_line : (fault : WriteFault) → StopsWriting contents old new front fault
         → MayStopWritingFrame contents old new (front ++ rest) (Planar (error_of fault))
     stops_in_line Failed stopped = (in_front _ _ stopped.0, stopped.1)
     stops_in_line TookNothing stopped = (in_front _ _ stopped.0, stopped.1)
 
-    -- the line was, and what stands after it was not
+    -- The line was written whole, and the bytes after it were not.
     pub stops_behind : Appends (contents old.inner) (contents mid.inner) front → mid.failures ≡ old.failures
         → (fault : PlanarError) → MayStopWriting contents mid new rest fault → MayStopWritingFrame contents old new
         (front ++ rest) (Planar fault)
@@ -58,7 +58,7 @@ module _ (front rest : List ℕ) where
     )
     stops_behind sent same WriteZero stopped = (behind _ _ _ sent stopped.0, stopped.1 ∙ same)
 
--- a writer that gave up at all bytes
+-- A writer that failed while all bytes were written.
 pub stops_writing : {W : Type 0} (contents : W → Option (List ℕ)) (old new : Watched W) (bytes : List ℕ)
     (fault : WriteFault)
     → StopsWriting contents old new bytes fault → MayStopWritingFrame contents old new bytes (Planar (error_of fault))

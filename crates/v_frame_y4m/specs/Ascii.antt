@@ -1,16 +1,16 @@
--- The bytes of a stream's lines that a clause names.
+-- The bytes that contracts name.
 use Rattle.std.specs.Prelude.{ℕ, ◌≡◌, [], ◌∷◌, codes, if◌then◌else◌, refl}
 use Rattle.std.specs.Char.{is_ascii_graphic}
 
--- what ends a line
+-- The byte that ends a line.
 abbrev pub line_feed : ℕ
 line_feed = 10
 
--- what stands before it where a line ends as in CRLF
+-- The byte in front of the line feed, if a line ends in CRLF.
 abbrev pub carriage_return : ℕ
 carriage_return = 13
 
--- what stands before each parameter
+-- The byte in front of each parameter.
 abbrev pub space : ℕ
 space = 32
 
@@ -23,18 +23,19 @@ digit_zero = 48
 abbrev pub digit_nine : ℕ
 digit_nine = 57
 
--- what stands between the numbers of a ratio
+-- The byte between the numbers of a ratio.
 abbrev pub colon : ℕ
 colon = 58
 
 abbrev pub question_mark : ℕ
 question_mark = 63
 
--- what a message shows for a byte: its own character where it is printed ASCII
+-- The character that a message displays for a byte: the byte itself if it is printable ASCII, and
+-- `?` otherwise.
 abbrev pub shown_byte : ℕ → ℕ
 shown_byte byte = if is_ascii_graphic byte then byte else question_mark
 
--- the letters that parameters begin with: W, H, F, I, A, C and X
+-- The letters of parameters: W, H, F, I, A, C and X.
 abbrev pub width_letter : ℕ
 width_letter = 87
 
@@ -56,7 +57,7 @@ color_letter = 67
 abbrev pub extension_letter : ℕ
 extension_letter = 88
 
--- the names are those of the characters
+-- The names match the characters.
 signs_by_name : codes "\n\r +09:?"
     ≡ line_feed ∷ carriage_return ∷ space ∷ plus_sign ∷ digit_zero ∷ digit_nine ∷ colon
     ∷ question_mark ∷ []

@@ -1,4 +1,4 @@
--- What a color is, and how it is spelled.
+-- The properties of a color, and its spelling.
 use Rattle.std.specs.Prelude.{ℕ, List, [], ◌++◌, ◌==◌, codes, if◌then◌else◌, Option, Some, None}
 use Rattle.v_frame.specs.Prelude.{ChromaSubsampling, Yuv420 as Half, Yuv422 as Wide, Yuv411 as Quarter, Yuv444 as Full}
 use Rattle.v_frame.specs.Prelude.{Monochrome}
@@ -18,7 +18,7 @@ bits_of Twelve = 12
 bits_of Fourteen = 14
 bits_of Sixteen = 16
 
--- its decimal digits
+-- The decimal digits of a depth.
 abbrev pub depth_text : Depth → List ℕ
 depth_text Nine = codes "9"
 depth_text Ten = codes "10"
@@ -26,7 +26,7 @@ depth_text Twelve = codes "12"
 depth_text Fourteen = codes "14"
 depth_text Sixteen = codes "16"
 
--- what stands after the letter
+-- The text after the letter `C`.
 abbrev pub color_text : Color → List ℕ
 color_text Unstated = []
 color_text Yuv420 = codes "420"
@@ -87,7 +87,7 @@ siting_of (Yuv422HighDepth depth) = None
 siting_of (Yuv444HighDepth depth) = None
 siting_of (MonoHighDepth depth) = None
 
--- the color, where a parameter says it
+-- The color, if a parameter states it.
 abbrev pub stated : Color → Option Color
 stated Unstated = None
 stated Yuv420 = Some Yuv420
@@ -103,7 +103,7 @@ stated (Yuv422HighDepth depth) = Some (Yuv422HighDepth depth)
 stated (Yuv444HighDepth depth) = Some (Yuv444HighDepth depth)
 stated (MonoHighDepth depth) = Some (MonoHighDepth depth)
 
--- the depth of so many bits, above 8
+-- The depth of this number of bits, above 8.
 abbrev pub depth_of_bits : ℕ → Option Depth
 depth_of_bits bits =
     if bits == 9 then Some Nine
@@ -112,8 +112,8 @@ depth_of_bits bits =
     else (if bits == 14 then Some Fourteen
     else (if bits == 16 then Some Sixteen else None))))
 
--- the color of 8 bits that has a format and a siting; of the three whose chroma is centered that of
--- JPEG, as ffmpeg writes it
+-- The 8-bit color with this subsampling and this siting. Of the three with centered chroma, it is
+-- `420jpeg`, which ffmpeg writes.
 abbrev pub eight_bit_color : ChromaSubsampling → Option ChromaSiting → Option Color
 eight_bit_color Half (Some Center) = Some Yuv420Jpeg
 eight_bit_color Half (Some Left) = Some Yuv420Mpeg2
@@ -128,7 +128,7 @@ eight_bit_color Full (Some siting) = None
 eight_bit_color Monochrome None = Some Mono
 eight_bit_color Monochrome (Some siting) = None
 
--- the one above 8 bits
+-- The color above 8 bits with this subsampling, this depth and this siting.
 abbrev pub high_depth_color :
     ChromaSubsampling → Option Depth → Option ChromaSiting → Option Color
 high_depth_color Half (Some depth) None = Some (Yuv420HighDepth depth)
@@ -139,7 +139,7 @@ high_depth_color Monochrome (Some depth) None = Some (MonoHighDepth depth)
 high_depth_color subsampling (Some depth) (Some siting) = None
 high_depth_color subsampling None siting = None
 
--- the color of a format, so many bits and a siting, where one has these three
+-- The color with this subsampling, this number of bits and this siting, if there is one.
 abbrev pub color_with : ChromaSubsampling → ℕ → Option ChromaSiting → Option Color
 color_with subsampling bits siting =
     if bits == 8 then eight_bit_color subsampling siting

@@ -1,4 +1,4 @@
--- What is wrong with a header line that is refused.
+-- The faults of header lines that are rejected.
 use Rattle.std.specs.Prelude.{ℕ, ◌≡◌, ◌≢◌, ◌^◌, ◌<◌, ◌≤◌, ◌⊎◌, All, Contains, List, [], ◌∷◌, drop, length, slice_index}
 use Rattle.std.specs.Prelude.{Some}
 use Rattle.std.specs.Fmt.{decimal}
@@ -13,18 +13,18 @@ use Rattle.v_frame_y4m.specs.declared.error.HeaderError.{HeaderError}
 use Rattle.v_frame_y4m.specs.declared.error.HeaderError.TheVariants.{NotAStream, Missing, Duplicate, Malformed}
 use Rattle.v_frame_y4m.specs.declared.error.HeaderError.TheVariants.{ZeroSize, SizeTooLarge, UnknownColor, OutOfMemory}
 
--- the bytes are ASCII digits without a leading zero
+-- The bytes are ASCII digits without a leading zero.
 abbrev pub AreDigits : List ℕ → Type 0
 AreDigits text =
     (digit_zero < slice_index text 0)
     × All (λ byte. (digit_zero ≤ byte) × (byte ≤ digit_nine)) text
 
--- a letter that may stand once
+-- A letter that may occur only once.
 abbrev pub IsOnce : ℕ → Type 0
 IsOnce letter = Contains letters letter × (letter ≢ extension_letter)
 
 module _ (parameters : List (List ℕ)) where
-  -- this is the one parameter of its letter, and it spells no number of the type
+  -- This is the only parameter with its letter, and its value is not valid.
   abbrev pub HasNoNumber : ℕ → List ℕ → Type 0
   HasNoNumber letter text =
       (of_letter letter parameters ≡ text ∷ [])
@@ -45,11 +45,11 @@ module _ (parameters : List (List ℕ)) where
       (of_letter color_letter parameters ≡ text ∷ [])
       × ((c : Color) → stated c ≡ Some c → text ≢ color_letter ∷ color_text c)
 
-  -- W or H
+  -- A statement about the parameter W or H.
   abbrev pub IsOfSize : (ℕ → Type 0) → Type 0
   IsOfSize P = P width_letter ⊎ P height_letter
 
-  -- the error may come at these parameters
+  -- These parameters have a fault for which the error may be reported.
   abbrev pub HasFault : HeaderError → Type 0
   HasFault NotAStream = ⊥
   HasFault (Missing letter) =
@@ -70,7 +70,7 @@ module _ (parameters : List (List ℕ)) where
   HasFault (UnknownColor text) = HasNoColor text.bytes
   HasFault OutOfMemory = Unit {0}
 
--- the error may come at this line
+-- This line may be rejected with the error.
 abbrev pub IsRefusedFor : List ℕ → HeaderError → Type 0
 IsRefusedFor line error =
     (error ≡ OutOfMemory)

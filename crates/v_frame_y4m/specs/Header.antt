@@ -1,5 +1,5 @@
--- The grammar of the header line, a line being bytes without a line feed: `YUV4MPEG2`, and after it
--- parameters, each after one space and each with its letter first.
+-- The grammar of the header line, which is given without its line feed: `YUV4MPEG2`, followed by
+-- parameters. Each parameter has a space in front of it and begins with its letter.
 use Rattle.std.specs.Prelude.{ℕ, ◌≡◌, ◌≢◌, ◌^◌, ◌<◌, ◌==◌, All, Contains, List, [], ◌∷◌, ◌++◌, codes, filter, flat_map}
 use Rattle.std.specs.Prelude.{map, slice_index, IfSome, Option, Some, None}
 use Rattle.std.specs.Borrow.{Bor}
@@ -17,24 +17,24 @@ use Rattle.v_frame_y4m.specs.declared.header.StreamHeader.{StreamHeader}
 abbrev pub signature : List ℕ
 signature = codes "YUV4MPEG2"
 
--- the pieces of a line between its spaces
+-- The pieces of a line between its spaces.
 abbrev pub pieces : List ℕ → List (List ℕ)
 pieces line = slice_split (λ byte. byte == space) line
 
--- the texts that slices lend, in their order
+-- The contents of slices, in their order.
 abbrev pub texts_of : List (Bor (List ℕ)) → List (List ℕ)
 texts_of slices = map (λ slice. slice.now) slices
 
--- the parameters of a letter, in their order
+-- The parameters with a letter, in their order.
 abbrev pub of_letter : ℕ → List (List ℕ) → List (List ℕ)
 of_letter letter parameters = filter (λ parameter. slice_index parameter 0 == letter) parameters
 
--- a parameter that may be missing
+-- An optional parameter.
 abbrev pub parameter_of : {A : Type 0} → ℕ → (A → List ℕ) → Option A → List (List ℕ)
 parameter_of letter spell None = []
 parameter_of letter spell (Some a) = (letter ∷ spell a) ∷ []
 
--- two decimal numbers with a colon between
+-- Two decimal numbers with a colon between them.
 abbrev pub ratio_text : Ratio → List ℕ
 ratio_text r = decimal r.numerator ++ colon ∷ decimal r.denominator
 
@@ -48,12 +48,12 @@ interlacing_text Unknown = codes "?"
 abbrev pub FitsRatio : Ratio → Type 0
 FitsRatio r = (r.numerator < 2 ^ 64) × (r.denominator < 2 ^ 64)
 
--- the letters W, H, F, I, A, C and X
+-- The letters W, H, F, I, A, C and X.
 abbrev pub letters : List ℕ
 letters = codes "WHFIACX"
 
--- The parameters say what the header says: W and H stand once, F, I, A and C as often as the header
--- has them, and X for each of its extensions. The order of the letters is free.
+-- The parameters state the header `h`: W and H occur once, F, I, A and C once if the header has
+-- them, and X once for each extension. Different letters may be in any order.
 pub record Says (parameters : List (List ℕ)) (h : StreamHeader) : Type 0 where
   pub width : of_letter width_letter parameters ≡ (width_letter ∷ decimal h.width) ∷ []
   pub height : of_letter height_letter parameters ≡ (height_letter ∷ decimal h.height) ∷ []
@@ -69,21 +69,21 @@ pub record Says (parameters : List (List ℕ)) (h : StreamHeader) : Type 0 where
       ≡ map (λ text. extension_letter ∷ text) h.extensions
   pub known : All (λ parameter. Contains letters (slice_index parameter 0)) parameters
 
--- the numbers that a header can hold, with a picture of at least one pixel
+-- The numbers of a header fit into 64 bits, and the picture has at least one pixel.
 pub record HasSize (h : StreamHeader) : Type 0 where
   pub width : (0 < h.width) × (h.width < 2 ^ 64)
   pub height : (0 < h.height) × (h.height < 2 ^ 64)
   pub frame_rate : IfSome h.frame_rate FitsRatio
   pub pixel_aspect : IfSome h.pixel_aspect FitsRatio
 
--- the line is a header line, and says this
+-- The line is a header line and states the header `h`.
 pub record IsHeader (line : List ℕ) (h : StreamHeader) : Type 0 where
   pub parameters : List (List ℕ)
   pub pieces : pieces line ≡ signature ∷ parameters
   pub says : Says parameters h
   pub size : HasSize h
 
--- the parameters in the order in which they are written
+-- The parameters of a header, in the order of the writer.
 abbrev pub parameters_of : StreamHeader → List (List ℕ)
 parameters_of h =
     (width_letter ∷ decimal h.width) ∷ (height_letter ∷ decimal h.height)
@@ -93,24 +93,24 @@ parameters_of h =
     ++ (parameter_of color_letter color_text (stated h.color)
     ++ map (λ text. extension_letter ∷ text) h.extensions))))
 
--- each after a space
+-- Each parameter after a space.
 abbrev pub spelled : List (List ℕ) → List ℕ
 spelled parameters = flat_map (λ parameter. space ∷ parameter) parameters
 
--- the line that is written for a header
+-- The line that is written for a header.
 abbrev pub header_line : StreamHeader → List ℕ
 header_line h = signature ++ spelled (parameters_of h)
 
--- no byte is a space or a line feed
+-- No byte is a space or a line feed.
 abbrev pub IsPiece : List ℕ → Type 0
 IsPiece text = All (λ byte. (byte ≢ space) × (byte ≢ line_feed)) text
 
--- a header that has a line
+-- The header can be written.
 pub record IsWritable (h : StreamHeader) : Type 0 where
   pub width : 0 < h.width
   pub height : 0 < h.height
   pub extensions : All IsPiece h.extensions
 
--- the parameters stand letter by letter, in the order in which they are written
+-- The parameters are in the order of the writer.
 abbrev pub IsInOrder : List (List ℕ) → Type 0
 IsInOrder parameters = parameters ≡ flat_map (λ letter. of_letter letter parameters) letters

@@ -1,5 +1,5 @@
--- Streams: a header line and then frames, each after a line of its own, and what a call leaves of
--- the reader or the writer.
+-- Streams, which are a header line and frames with a line in front of each, and the effect of each
+-- call on the reader or the writer.
 use Rattle.std.specs.Prelude.{ℕ, ◌≡◌, ◌≢◌, ◌+◌, ◌<◌, ◌≤◌, ◌⊎◌, All, List, [], ◌∷◌, ◌++◌, Bool, true, false, codes}
 use Rattle.std.specs.Prelude.{length, Option}
 use Rattle.std.specs.Io.KnownBytes.{Consumes, IsAtEnd}
@@ -17,29 +17,29 @@ use Rattle.v_frame_y4m.specs.declared.header.StreamHeader.{StreamHeader}
 use Rattle.v_frame_y4m.specs.declared.error.Y4mError.{Y4mError}
 use Rattle.v_frame_y4m.specs.declared.error.Y4mError.TheVariants.{Header, LineTooLong, UnfinishedLine, NoFrame, Planar}
 
--- how many bytes a line may have without its line feed
+-- The largest number of bytes of a line, without its line feed.
 abbrev pub max_line_bytes : ℕ
 max_line_bytes = 1024
 
--- a line without its line feed
+-- A line without its line feed.
 abbrev pub IsLine : List ℕ → Type 0
 IsLine line = All (λ byte. byte ≢ line_feed) line
 
--- the line in front of a frame: `FRAME`, and parameters after a space, if any
+-- The line in front of a frame: `FRAME`, optionally followed by a space and parameters.
 abbrev pub IsFrameLine : List ℕ → Type 0
 IsFrameLine line = (line ≡ codes "FRAME") ⊎ ((rest : List ℕ) × (line ≡ codes "FRAME " ++ rest))
 
 module _ {R : Type 0} (remaining : R → Option (List ℕ)) (old new : Watched R) where
-  -- these bytes were read, and nothing after them
+  -- These bytes were read, and nothing after them.
   abbrev pub Took : List ℕ → Type 0
   Took bytes = Consumes (remaining old.inner) (remaining new.inner) bytes
 
-  -- no byte was read, since a read failed
+  -- A read failed, and no byte was read.
   abbrev pub StopsReadingByte : Y4mError → Type 0
   StopsReadingByte error =
       (error ≡ Planar Read) × Took [] × HasFailed old.failures new.failures
 
-  -- the error may come inside a line that may have n bytes
+  -- The error may be reported inside a line that is limited to n bytes.
   abbrev pub MayStopInLine : ℕ → Y4mError → Type 0
   MayStopInLine n (Header error) = ⊥
   MayStopInLine n LineTooLong =
@@ -53,13 +53,13 @@ module _ {R : Type 0} (remaining : R → Option (List ℕ)) (old new : Watched R
       (error ≡ Read) × ((bytes : List ℕ) × Took bytes × (length bytes ≤ n))
       × HasFailed old.failures new.failures
 
-  -- a line that says this was read, with its line feed
+  -- A line that states the header `h` was read, with its line feed.
   abbrev pub ReadsHeader : StreamHeader → Type 0
   ReadsHeader h =
       (line : List ℕ) × IsHeader line h × IsLine line × (length line ≤ max_line_bytes)
       × Took (line ++ line_feed ∷ [])
 
-  -- the error may come where a header is due
+  -- The error may be reported if a header line is expected.
   abbrev pub MayStopInHeader : Y4mError → Type 0
   MayStopInHeader (Header error) =
       ((line : List ℕ) × IsRefusedFor line error × IsLine line × (length line ≤ max_line_bytes)
@@ -72,20 +72,20 @@ module _ {R : Type 0} (remaining : R → Option (List ℕ)) (old new : Watched R
   MayStopInHeader NoFrame = ⊥
   MayStopInHeader (Planar error) = MayStopInLine max_line_bytes (Planar error)
 
-  -- a frame of these planar bytes was read with the line in front, or the reader stood at its end
+  -- The line in front of a frame and these bytes after it were read, or the reader was at its end.
   abbrev pub ReadsFrame : List ℕ → Bool → Type 0
   ReadsFrame bytes true =
       (line : List ℕ) × IsFrameLine line × IsLine line × Took (line ++ line_feed ∷ bytes)
       × (length line ≤ max_line_bytes)
   ReadsFrame bytes false = Took [] × IsAtEnd (remaining new.inner)
 
-  -- the line in front of a frame was read, and so many bytes after it
+  -- The line in front of a frame was read, and `count` bytes after it.
   abbrev pub TookOfFrame : ℕ → Type 0
   TookOfFrame count =
       (line : List ℕ) × IsFrameLine line × IsLine line × (length line ≤ max_line_bytes)
       × ((bytes : List ℕ) × Took (line ++ line_feed ∷ bytes) × (length bytes ≡ count))
 
-  -- the error may come at n planar bytes, after the line in front of them
+  -- The error may be reported if n bytes of a frame are expected, after the line in front of them.
   abbrev pub MayStopInBytes : ℕ → Y4mError → Type 0
   MayStopInBytes n error =
       (fault : PlanarError) × (error ≡ Planar fault)
@@ -93,7 +93,7 @@ module _ {R : Type 0} (remaining : R → Option (List ℕ)) (old new : Watched R
       ⊎ ((fault ≡ Truncated n 0) × Took [] × IsAtEnd (remaining new.inner)
       × (new.failures ≡ old.failures)))
 
-  -- the error may come at a frame of n planar bytes
+  -- The error may be reported if a frame of n bytes is expected.
   abbrev pub MayStopInFrame : ℕ → Y4mError → Type 0
   MayStopInFrame n (Header error) = ⊥
   MayStopInFrame n LineTooLong = MayStopInLine max_line_bytes LineTooLong
@@ -116,7 +116,8 @@ module _ {R : Type 0} (remaining : R → Option (List ℕ)) (old new : Watched R
   MayStopInFrame n (Planar WriteZero) = ⊥
 
 module _ {W : Type 0} (contents : W → Option (List ℕ)) (old new : Watched W) (bytes : List ℕ) where
-  -- the error may come at a frame of these bytes with its line, for which no memory is taken
+  -- The error may be reported while a frame with these bytes is written, line included. No memory
+  -- is allocated.
   abbrev pub MayStopWritingFrame : Y4mError → Type 0
   MayStopWritingFrame (Header error) = ⊥
   MayStopWritingFrame LineTooLong = ⊥
@@ -124,13 +125,14 @@ module _ {W : Type 0} (contents : W → Option (List ℕ)) (old new : Watched W)
   MayStopWritingFrame NoFrame = ⊥
   MayStopWritingFrame (Planar error) = MayStopWriting contents old new bytes error
 
-  -- the error may come at a header line of these bytes, for which memory is taken first
+  -- The error may be reported while a header line with these bytes is written. Memory is allocated
+  -- first.
   abbrev pub MayStopWritingHeader : Y4mError → Type 0
   MayStopWritingHeader error =
       ((error ≡ Planar OutOfMemory) × (new ≡ old)) ⊎ MayStopWritingFrame error
 
--- where a read or a write failed, the kind of its error is there, and else the last failure is as
--- before
+-- If a read or a write failed, the kind of its error is recorded. Otherwise the last failure is
+-- unchanged.
 abbrev pub TellsStreamCause : Option ErrorKind → Option ErrorKind → Y4mError → Type 0
 TellsStreamCause old new (Header error) = new ≡ old
 TellsStreamCause old new LineTooLong = new ≡ old

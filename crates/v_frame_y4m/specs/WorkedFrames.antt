@@ -1,4 +1,4 @@
--- Colors found and bytes counted by hand. Each line computes: it is proved by `refl`.
+-- Colors and numbers of bytes worked out by hand. Each is proved by computation (`refl`).
 use Rattle.std.specs.Prelude.{◌≡◌, ◌+◌, ◌*◌, Some, None, refl}
 use Rattle.v_frame.specs.Prelude.{Yuv420 as Half, Yuv422 as Wide, Yuv411 as Quarter}
 use Rattle.v_frame_planar.specs.Planar.{byte_count}
@@ -12,7 +12,7 @@ use Rattle.v_frame_y4m.specs.declared.color.Color.TheVariants.{Yuv420Jpeg, Yuv42
 centered : color_with Half 8 (Some Center) ≡ Some Yuv420Jpeg
 centered = refl
 
--- 4:2:0 of 8 bits has a siting, and no other color has one
+-- 8-bit 4:2:0 has a siting, and no other color has one.
 without_a_siting : color_with Half 8 None ≡ None
 without_a_siting = refl
 
@@ -28,7 +28,7 @@ deep_quarter = refl
 eleven_bits : color_with Wide 11 None ≡ None
 eleven_bits = refl
 
--- 5 by 3 pixels of 4:2:0 with 10 bits
+-- 5 by 3 pixels of 4:2:0 with 10 bits.
 two_planes_cover_luma : let chroma = chroma_sizes_of Half 5 3 in
     byte_count (pixel_bytes 10) ((5, 3), (chroma, chroma)) ≡ 2 * (5 * 3 + 2 * (3 * 2))
 two_planes_cover_luma = refl

@@ -1,4 +1,4 @@
--- Lines and the strict lines that they stand for. Each line computes: it is proved by `refl`.
+-- Lines and their strict lines. Each is proved by computation (`refl`).
 use Rattle.std.specs.Prelude.{◌≡◌, [], codes, refl}
 use Rattle.v_frame_y4m.specs.Lax.{strict_line, without_return}
 
@@ -8,7 +8,7 @@ lax = refl
 strict : strict_line (codes "YUV4MPEG2 W35 H27 F30:1 XF25") ≡ codes "YUV4MPEG2 W35 H27 F30:1 XF25"
 strict = refl
 
--- none of these is clear
+-- None of these is a lax form with a clear meaning.
 half_a_rate : strict_line (codes "F25: F F0 F025 F2a A1") ≡ codes "F25: F F0 F025 F2a A1"
 half_a_rate = refl
 

@@ -1,11 +1,11 @@
-//! The colors of a stream: format, bit depth, and where chroma is sited.
+//! The colors of a stream: chroma format, bit depth and chroma siting.
 ghost use Rattle.std.specs.Prelude.{◌≡◌, ◌≢◌, ◌↔◌, IfNone, IfSome, IsTrue};
 ghost use Rattle.v_frame_y4m.specs.Color.{bits_of, color_text, color_with, depth_of, depth_of_bits, eight_bit_color, high_depth_color, siting_of, stated, subsampling_of};
 ghost use Rattle.v_frame_y4m.specs.declared.color.Color.{Color as TheColor};
 
 use v_frame::chroma::ChromaSubsampling;
 
-/// Bits a pixel, above 8.
+/// A bit depth above 8.
 #[derive(Debug, Clone, Copy, PartialEq, Eq)]
 pub enum Depth {
     /// 9 bits.
@@ -34,7 +34,7 @@ impl Depth {
         }
     }
 
-    /// Returns the depth of so many bits. `None` where it is none of these.
+    /// Returns the depth of this number of bits, or `None` if it is not one of these depths.
     pub fn from_bits(bits: u8) -> Option<Self>
         ensures { result ≡ depth_of_bits bits }
     {
@@ -49,21 +49,21 @@ impl Depth {
     }
 }
 
-/// Where the chroma samples of 8-bit 4:2:0 lie beside those of luma.
+/// The position of the chroma samples of 8-bit 4:2:0, relative to the luma samples.
 #[derive(Debug, Clone, Copy, PartialEq, Eq)]
 pub enum ChromaSiting {
-    /// In the middle of four luma samples, as in JPEG and MPEG-1.
+    /// In the center of four luma samples, as in JPEG and MPEG-1.
     Center,
-    /// Beside the left column of the four, between their rows, as in MPEG-2.
+    /// Aligned with the left column of the four luma samples, halfway between their rows, as in MPEG-2.
     Left,
-    /// As in PAL DV, where Cb and Cr lie on luma samples of rows in turn.
+    /// As in PAL DV: on luma samples, with Cb and Cr on alternate rows.
     Alternating,
 }
 
-/// The color of a stream, its parameter `C`: a format, a bit depth, and where chroma is sited.
+/// The color of a stream, which is its parameter `C`: chroma format, bit depth and chroma siting.
 #[derive(Debug, Clone, Copy, PartialEq, Eq)]
 pub enum Color {
-    /// The header has no parameter `C`: 4:2:0 as in JPEG.
+    /// The header has no parameter `C`, which means 4:2:0 as in JPEG.
     Unstated,
     /// `420`: 4:2:0 as in JPEG.
     Yuv420,
@@ -81,17 +81,17 @@ pub enum Color {
     Yuv444,
     /// `mono`: monochrome.
     Mono,
-    /// `420p` and a depth: 4:2:0 above 8 bits.
+    /// `420p` and a depth: 4:2:0 with more than 8 bits.
     Yuv420HighDepth(Depth),
-    /// `422p` and a depth: 4:2:2 above 8 bits.
+    /// `422p` and a depth: 4:2:2 with more than 8 bits.
     Yuv422HighDepth(Depth),
-    /// `444p` and a depth: 4:4:4 above 8 bits.
+    /// `444p` and a depth: 4:4:4 with more than 8 bits.
     Yuv444HighDepth(Depth),
-    /// `mono` and a depth: monochrome, above 8 bits.
+    /// `mono` and a depth: monochrome with more than 8 bits.
     MonoHighDepth(Depth),
 }
 
-/// The colors that a parameter says.
+/// The colors that a parameter `C` can state.
 const STATED: [Color; 28] = [
     Color::Yuv420,
     Color::Yuv420Jpeg,
@@ -124,10 +124,10 @@ const STATED: [Color; 28] = [
 ];
 
 impl Color {
-    /// Returns the color of a format, a bit depth and a siting. `None` where no color has these three.
+    /// Returns the color with this chroma subsampling, this number of bits and this chroma siting, or `None` if there is none.
     ///
-    /// 4:2:0 of 8 bits alone has a siting, and always has one. Three colors are such with centered chroma: of them it is
-    /// [`Yuv420Jpeg`](Self::Yuv420Jpeg), as ffmpeg writes it.
+    /// Only 8-bit 4:2:0 has a siting, and it always has one. Three colors have centered chroma. Of these, the call returns
+    /// [`Yuv420Jpeg`](Self::Yuv420Jpeg), which is the one that ffmpeg writes.
     pub fn new(
         subsampling: ChromaSubsampling,
         bit_depth: u8,
@@ -146,7 +146,7 @@ impl Color {
         }
     }
 
-    /// Returns the color of 8 bits that has these two.
+    /// Returns the 8-bit color with this subsampling and this siting.
     fn of_eight_bits(subsampling: ChromaSubsampling, siting: Option<ChromaSiting>) -> Option<Self>
         ensures { result ≡ eight_bit_color subsampling siting }
     {
@@ -164,7 +164,7 @@ impl Color {
         }
     }
 
-    /// Returns the color above 8 bits that has these three.
+    /// Returns the color above 8 bits with this subsampling, this depth and this siting.
     fn of_high_depth(
         subsampling: ChromaSubsampling,
         depth: Option<Depth>,
@@ -185,7 +185,7 @@ impl Color {
         }
     }
 
-    /// What this text after the letter `C` says.
+    /// Parses the text after the letter `C`.
     pub(crate) fn parse(text: &[u8]) -> Option<Self>
         ensures unknown { IfNone result ((c : TheColor) → stated c ≡ Some c → text.now ≢ color_text c) }
         ensures known { IfSome result (λ c. text.now ≡ color_text c) }
@@ -199,14 +199,14 @@ impl Color {
         None
     }
 
-    /// Returns whether this text spells the color.
+    /// Returns whether `text` is the text of this color.
     fn is_spelled(self, text: &[u8]) -> bool
         ensures { IsTrue result ↔ (text.now ≡ color_text self) }
     {
         text == self.text().as_bytes()
     }
 
-    /// Returns the format of the frames.
+    /// Returns the chroma subsampling of the frames.
     pub fn subsampling(self) -> ChromaSubsampling
         ensures { result ≡ subsampling_of self }
     {
@@ -224,7 +224,7 @@ impl Color {
         }
     }
 
-    /// Returns how many bits a pixel has, 8 to 16. Pixels of 8 bits are `u8`, deeper ones `u16`.
+    /// Returns the number of bits of a sample, from 8 to 16. Frames of 8 bits have pixels of type `u8`, deeper frames `u16`.
     pub fn bit_depth(self) -> u8
         ensures { result ≡ depth_of self }
     {
@@ -237,7 +237,7 @@ impl Color {
         }
     }
 
-    /// Where chroma is sited. `None` but for 4:2:0 of 8 bits.
+    /// Returns the chroma siting. `None` for every color except 8-bit 4:2:0.
     pub fn siting(self) -> Option<ChromaSiting>
         ensures { result ≡ siting_of self }
     {
@@ -249,7 +249,7 @@ impl Color {
         }
     }
 
-    /// What stands after the letter `C`, nothing for [`Unstated`](Self::Unstated).
+    /// Returns the text after the letter `C`. It is empty for [`Unstated`](Self::Unstated).
     pub fn text(self) -> &'static str
         ensures { result.now ≡ color_text self }
     {

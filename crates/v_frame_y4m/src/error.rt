@@ -1,11 +1,11 @@
-//! Why a stream was not read, or not written.
+//! Errors of reading and writing YUV4MPEG2 streams.
 
 use crate::text::Text;
 use std::alloc::AllocError;
 use thiserror::Error;
 use v_frame_planar::{PlanarError, WriteFault};
 
-/// Why a header line was refused.
+/// Why a header line was rejected.
 #[derive(Debug, PartialEq, Eq, Drop, Error)]
 pub enum HeaderError {
     /// The line does not begin with `YUV4MPEG2`.
@@ -14,22 +14,22 @@ pub enum HeaderError {
     /// A required parameter, `W` or `H`, is missing.
     #[error("parameter {0} is missing")]
     Missing(char),
-    /// A parameter is repeated that may stand once.
+    /// A parameter that may occur only once is repeated.
     #[error("parameter {0} is repeated")]
     Duplicate(char),
-    /// A parameter has an unknown letter, or its letter does not go with the rest.
+    /// A parameter has an unknown letter, or its value is not valid for its letter. The text is the whole parameter.
     #[error("malformed parameter `{0}`")]
     Malformed(Text),
-    /// The width or the height, as the letter says, is 0.
+    /// The width or the height is 0. The letter is `W` or `H`.
     #[error("parameter {0} is 0")]
     ZeroSize(char),
-    /// The width or the height is above `usize::MAX`.
+    /// The width or the height is above `usize::MAX`. The text is the whole parameter.
     #[error("size too large `{0}`")]
     SizeTooLarge(Text),
-    /// The color, `C` and what follows, is none of those that are read.
+    /// The color is not supported. The text is the letter `C` and what follows it.
     #[error("unknown color `{0}`")]
     UnknownColor(Text),
-    /// A request for memory was refused.
+    /// A memory allocation failed.
     #[error("out of memory")]
     OutOfMemory,
 }
@@ -45,22 +45,23 @@ impl From<AllocError> for HeaderError {
     }
 }
 
-/// Why a call on a stream gave up.
+/// Why a call on a YUV4MPEG2 stream failed.
 #[derive(Debug, PartialEq, Eq, Drop, Error)]
 pub enum Y4mError {
-    /// The header line was refused.
+    /// The header line was rejected.
     #[error(transparent)]
     Header(HeaderError),
-    /// No line feed stands among the first 1025 bytes of a line.
+    /// The first 1025 bytes of a line contain no line feed.
     #[error("line longer than 1024 bytes")]
     LineTooLong,
-    /// The reader came to its end inside a line.
+    /// The stream ended inside a line.
     #[error("the stream ends inside a line")]
     UnfinishedLine,
-    /// Another line stands where a frame's line `FRAME` is due.
+    /// A `FRAME` line is required, but the stream has another line.
     #[error("no FRAME where a frame is due")]
     NoFrame,
-    /// The planar bytes of a frame were not read or not written whole, or a read, a write or a request for memory failed.
+    /// The bytes of a frame were not read or written whole: the stream ended, a read or a write failed, or a memory allocation
+    /// failed.
     #[error(transparent)]
     Planar(PlanarError),
 }

@@ -1,4 +1,4 @@
-//! Frames of the size that a header says.
+//! Frames of the size that a header states.
 ghost use Rattle.std.specs.Prelude.{◌≡◌, ◌*◌, ◌<◌, ◌≤◌, IfOk, MatchOption, IsOkUnless, SomeIff};
 ghost use Rattle.v_frame.specs.Prelude.{tables_of, usize_max};
 ghost use Rattle.v_frame_planar.specs.Planar.{plane_byte_count, sizes_of};
@@ -14,17 +14,21 @@ use v_frame::pixel::Pixel;
 use v_frame_planar::{chroma_size, video_frame};
 
 impl StreamHeader {
-    /// Returns a frame to read the frames of the stream into: of its size, its format and its bit depth, with all planes
-    /// zero.
+    /// Allocates a frame that the frames of the stream can be read into. It has the size, the chroma subsampling and the bit
+    /// depth of the stream, and all pixels are zero.
     ///
-    /// The pixels are `u8` where [`Color::bit_depth`](crate::Color::bit_depth) is 8, else `u16`. The border has `padding`
-    /// pixels on all four sides of luma, or so many more that it divides; 0 serves a reader.
+    /// The pixel type `T` must be `u8` if [`Color::bit_depth`](crate::Color::bit_depth) is 8, and `u16` otherwise. The luma
+    /// plane has at least `padding` pixels of padding on each side, rounded up to a multiple of the chroma subsampling ratio. A
+    /// `padding` of 0 is enough for reading.
     ///
     /// # Errors
     ///
-    /// Those of [`video_frame`]: [`FrameError::DataTypeMismatch`] where `T` has not the size of the pixels,
-    /// [`FrameError::UnsupportedResolution`] where a size is zero or cannot be held, and [`FrameError::OutOfMemory`] where a
-    /// request for memory was refused.
+    /// The errors of [`video_frame`]:
+    ///
+    /// - [`FrameError::DataTypeMismatch`] if `T` does not match the bit depth.
+    /// - [`FrameError::UnsupportedResolution`] if the width or the height is zero, or if the frame is too large for the address
+    ///   space.
+    /// - [`FrameError::OutOfMemory`] if a memory allocation fails.
     pub fn frame<T: Pixel>(&self, alloc: Global, padding: usize) -> Result<Frame<T>, FrameError>
         ensures refused { MatchOption (video_refusal_of T.BYTES (video_request self.now.width
             self.now.height (subsampling_of self.now.color) (depth_of self.now.color) padding))
@@ -48,9 +52,10 @@ impl StreamHeader {
         )
     }
 
-    /// Returns how many bytes a frame of the stream has after its line: those of Y, and of U and V where there is chroma,
-    /// one a pixel at a bit depth of 8 and else two. Chroma has as many columns and rows as cover luma. `None` where they
-    /// are more than `usize::MAX`.
+    /// Returns the number of bytes that follow the `FRAME` line of each frame, or `None` if there are more than `usize::MAX`.
+    ///
+    /// They are the bytes of the planes Y, U and V. A sample has one byte at a bit depth of 8, and two bytes above. The sizes
+    /// of the chroma planes are rounded up, so that they cover the luma plane.
     pub fn frame_len(&self) -> Option<usize>
         ensures { let count = frame_byte_count self.now in SomeIff result (count ≤ usize_max) count }
     {
@@ -61,7 +66,8 @@ impl StreamHeader {
     }
 }
 
-/// Returns how many bytes a plane of chroma has beside luma of this size, none where there is no chroma.
+/// Returns the number of bytes of a chroma plane of a frame of `width` by `height` luma pixels, at `pixel` bytes for each
+/// pixel. The number is 0 if the format has no chroma.
 fn chroma_len(
     width: usize,
     height: usize,
@@ -78,7 +84,7 @@ fn chroma_len(
     }
 }
 
-/// Returns how many bytes a plane has, at so many bytes a pixel.
+/// Returns the number of bytes of a plane, at `pixel` bytes for each pixel.
 fn plane_len(width: usize, height: usize, pixel: usize) -> Option<usize>
     requires { 0 < pixel }
     ensures { let count = width * height * pixel in SomeIff result (count ≤ usize_max) count }

@@ -1,4 +1,4 @@
-//! What a header line says.
+//! The contents of a header line.
 ghost use Rattle.std.specs.Prelude.{◌≡◌, ◌≢◌, ◌↔◌, string_bytes, IfOk, IsTrue, MatchOption};
 ghost use Rattle.v_frame_y4m.specs.Header.{interlacing_text, ratio_text, IsPiece, IsWritable};
 ghost use Rattle.v_frame_y4m.specs.declared.header.Interlacing.{Interlacing as TheInterlacing};
@@ -7,21 +7,21 @@ use crate::color::Color;
 use std::alloc::{AllocError, Global};
 use v_frame::sequence::Sequence;
 
-/// A number beside another one, as the frames per second `30000:1001`.
+/// A ratio of two numbers, such as the frame rate `30000:1001`.
 #[derive(Debug, Clone, Copy, PartialEq, Eq)]
 pub struct Ratio {
     /// The number before the colon.
     pub numerator: u64,
-    /// The number after it. `0:0` says that the ratio is unknown. A single 0 is read, too, before the colon or after it.
+    /// The number after the colon. `0:0` means that the ratio is unknown. A zero on only one side is accepted too.
     pub denominator: u64,
 }
 
 impl Ratio {
-    /// Returns the two numbers with a colon between.
+    /// Returns the two numbers in decimal with a colon between them.
     ///
     /// # Errors
     ///
-    /// [`AllocError`] where a request for memory was refused.
+    /// [`AllocError`] if a memory allocation fails.
     pub fn text(self, alloc: Global) -> Result<String, AllocError>
         ensures { IfOk result (λ text. string_bytes text ≡ ratio_text self) }
     {
@@ -33,23 +33,23 @@ impl Ratio {
     }
 }
 
-/// How the rows of a frame go with time.
+/// The interlacing of the frames of a stream.
 #[derive(Debug, Clone, Copy, PartialEq, Eq)]
 pub enum Interlacing {
-    /// `p`: all rows at one time.
+    /// `p`: progressive.
     Progressive,
-    /// `t`: two fields, the one of the top row first.
+    /// `t`: interlaced, top field first.
     TopFirst,
-    /// `b`: two fields, the one of the row below first.
+    /// `b`: interlaced, bottom field first.
     BottomFirst,
-    /// `m`: frames of each kind.
+    /// `m`: mixed, with frames of several kinds.
     Mixed,
     /// `?`: unknown.
     Unknown,
 }
 
 impl Interlacing {
-    /// What stands after the letter `I`.
+    /// Returns the text after the letter `I`.
     pub fn text(self) -> &'static str
         ensures { result.now ≡ interlacing_text self }
     {
@@ -62,7 +62,7 @@ impl Interlacing {
         }
     }
 
-    /// What this text after the letter `I` says.
+    /// Parses the text after the letter `I`.
     pub(crate) fn parse(text: &[u8]) -> Option<Self>
         ensures { MatchOption result ((i : TheInterlacing) → text.now ≢ interlacing_text i)
             (λ i. text.now ≡ interlacing_text i) }
@@ -78,29 +78,32 @@ impl Interlacing {
     }
 }
 
-/// What the header line of a stream says.
+/// The contents of the header line of a stream.
 #[derive(Debug, PartialEq, Eq, Drop)]
 pub struct StreamHeader {
-    /// `W`, in pixels. At least 1 in a stream.
+    /// `W`: the width in pixels. At least 1 in a valid stream.
     pub width: usize,
-    /// `H`, in pixels. At least 1 in a stream.
+    /// `H`: the height in pixels. At least 1 in a valid stream.
     pub height: usize,
-    /// `F`, frames per second.
+    /// `F`: the frame rate in frames per second.
     pub frame_rate: Option<Ratio>,
-    /// `I`.
+    /// `I`: the interlacing.
     pub interlacing: Option<Interlacing>,
-    /// `A`, the width of a pixel beside its height.
+    /// `A`: the pixel aspect ratio, width to height.
     pub pixel_aspect: Option<Ratio>,
-    /// `C`. [`Color::Unstated`] where it is missing.
+    /// `C`: the color. It is [`Color::Unstated`] if the line has no such parameter.
     pub color: Color,
-    /// What stands after the letter of each `X`, as it came and in this order. In a stream these have no space and no line
-    /// feed.
+    /// `X`: the texts after the letter of each extension, unchanged and in their order. In a valid stream they contain no space
+    /// and no line feed.
     pub extensions: Sequence<Sequence<u8>>,
 }
 
 impl StreamHeader {
-    /// Returns whether the header has a line: no size is 0, and no extension has a space or a line feed. Each header that
-    /// was read has one. A line of more than [`MAX_LINE_BYTES`](crate::MAX_LINE_BYTES) is written, and no reader here takes it.
+    /// Returns whether [`write_header`](crate::write_header) can write this header: the width and the height are at least 1,
+    /// and no extension contains a space or a line feed.
+    ///
+    /// Every header that was read can be written. A line of more than [`MAX_LINE_BYTES`](crate::MAX_LINE_BYTES) is written too,
+    /// although no reader of this crate accepts it.
     pub fn is_writable(&self) -> bool
         ensures { IsTrue result ↔ IsWritable self.now }
     {
@@ -108,7 +111,7 @@ impl StreamHeader {
     }
 }
 
-/// Returns whether no byte is a space or a line feed.
+/// Returns whether `text` contains no space and no line feed.
 fn is_piece(text: &Sequence<u8>) -> bool
     ensures { IsTrue result ↔ IsPiece text.now }
 {

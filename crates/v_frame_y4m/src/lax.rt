@@ -1,7 +1,7 @@
-//! Lines as lax producers write them, and the strict line that each stands for.
+//! Lax lines: deviations of some writers that are accepted, and the strict line that each lax line means.
 //!
-//! What stands for another line has a carriage return at its end, more than one space between two pieces, a space at its
-//! end, or a frame rate without its denominator, as `F25`. No other fault of a line is passed over.
+//! A lax line may end in a carriage return, may have more than one space between two pieces or spaces at either end, and may
+//! give the frame rate without its denominator, as in `F25`. All other deviations are rejected.
 ghost use Rattle.std.specs.Prelude.{◌≡◌, ◌↔◌, IfOk, IfErr, IsTrue, MatchResult, OnOk};
 ghost use Rattle.v_frame_y4m.specs.Faults.{IsRefusedFor};
 ghost use Rattle.v_frame_y4m.specs.Header.{texts_of, IsHeader, IsWritable};
@@ -19,12 +19,14 @@ use std::alloc::{AllocError, Global};
 use std::io;
 use v_frame_planar::Counted;
 
-/// Reads the header line of a stream, or one that stands for it, and returns what [`strict_line`] of it says, and whether
-/// the line was strict itself. Nothing after its line feed is read.
+/// Reads the header line of a stream, strict or lax. Returns the header, and whether the line was strict. Nothing after the
+/// line feed is read.
+///
+/// The header is the one that [`strict_line`] of the line states.
 ///
 /// # Errors
 ///
-/// Those of [`read_header`](crate::read_header), with what is wrong with the strict line.
+/// The errors of [`read_header`](crate::read_header). [`Y4mError::Header`] refers to the strict line.
 pub fn read_lax_header<R: io::Read>(
     alloc: Global,
     reader: &mut Counted<R>,
@@ -43,13 +45,13 @@ pub fn read_lax_header<R: io::Read>(
     Ok(parse_lax_header(alloc, &line[..length])?)
 }
 
-/// Reads the line in front of a frame, or one that stands for it. `false` where the reader stood at its end before it. The
-/// planar bytes after it are left for [`v_frame_planar::read_frame`].
+/// Reads the line in front of a frame, strict or lax. Returns `false` if the reader was at its end. The bytes of the frame are
+/// left for [`v_frame_planar::read_frame`].
 ///
 /// # Errors
 ///
-/// Those of [`read_frame_line`](crate::read_frame_line), with [`Y4mError::NoFrame`] where
-/// [`is_lax_frame_line`] is `false`.
+/// The errors of [`read_frame_line`](crate::read_frame_line). [`Y4mError::NoFrame`] is returned if [`is_lax_frame_line`] is
+/// `false` for the line.
 pub fn read_lax_frame_line<R: io::Read>(reader: &mut Counted<R>) -> Result<bool, Y4mError>
     ensures read { IfOk result (ReadsLaxFrameLine R.remaining reader.old reader.new) }
     ensures uncounted { OnOk result (reader.new.failures ≡ reader.old.failures) }
@@ -65,11 +67,11 @@ pub fn read_lax_frame_line<R: io::Read>(reader: &mut Counted<R>) -> Result<bool,
     }
 }
 
-/// What the strict line says that a header line stands for, and whether the line is strict itself.
+/// Parses a header line without its line feed, strict or lax. Returns the header, and whether the line is strict.
 ///
 /// # Errors
 ///
-/// Those of [`parse_header`], with what is wrong with the strict line.
+/// The errors of [`parse_header`] for the strict line.
 pub fn parse_lax_header(alloc: Global, line: &[u8]) -> Result<(StreamHeader, bool), HeaderError>
     ensures found { IfOk result (λ found. IsHeader (strict_line line.now) found.0) }
     ensures strict { IfOk result (λ found. IsTrue found.1 ↔ (strict_line line.now ≡ line.now)) }
@@ -80,12 +82,13 @@ pub fn parse_lax_header(alloc: Global, line: &[u8]) -> Result<(StreamHeader, boo
     Ok((header, strict.as_slice() == line))
 }
 
-/// Returns the strict line that a header line stands for: without one carriage return at its end, with one space between
-/// two pieces and none at an end, and with the denominator of 1 where a frame rate is one number above 0.
+/// Returns the strict line that a header line means. `line` has no line feed. One carriage return at its end is removed,
+/// several spaces become one, spaces at both ends are removed, and a frame rate of a single number above 0 gets the denominator
+/// 1.
 ///
 /// # Errors
 ///
-/// [`AllocError`] where a request for memory was refused.
+/// [`AllocError`] if a memory allocation fails.
 pub fn strict_line(alloc: Global, line: &[u8]) -> Result<Vec<u8>, AllocError>
     ensures { IfOk result (λ strict. strict.items ≡ strict_line line.now) }
 {
@@ -93,7 +96,7 @@ pub fn strict_line(alloc: Global, line: &[u8]) -> Result<Vec<u8>, AllocError>
     joined(alloc, pieces.as_slice())
 }
 
-/// Returns the line of these pieces: those that are not empty, as the format has them, with one space between two.
+/// Joins the pieces that are not empty, each in its strict form, with one space between two.
 fn joined(alloc: Global, pieces: &[&[u8]]) -> Result<Vec<u8>, AllocError>
     ensures { IfOk result (λ strict. strict.items ≡ joined (texts_of pieces.now)) }
 {
@@ -106,15 +109,15 @@ fn joined(alloc: Global, pieces: &[&[u8]]) -> Result<Vec<u8>, AllocError>
     Ok(strict)
 }
 
-/// Returns whether this line, without its line feed, is one in front of a frame, or would be without one carriage return at
-/// its end.
+/// Returns whether `line`, which has no line feed, is a line in front of a frame, or becomes one if a carriage return at its
+/// end is removed.
 pub fn is_lax_frame_line(line: &[u8]) -> bool
     ensures { IsTrue result ↔ IsLaxFrameLine line.now }
 {
     is_frame_line(without_return(line))
 }
 
-/// Returns a line without one carriage return at its end, where it has one.
+/// Returns the line without one carriage return at its end, if it has one.
 fn without_return(line: &[u8]) -> &[u8]
     ensures { result.now ≡ without_return line.now }
 {
@@ -124,7 +127,7 @@ fn without_return(line: &[u8]) -> &[u8]
     }
 }
 
-/// Adds a piece as the format has it.
+/// Appends a piece in its strict form.
 fn push_strict(strict: &mut Vec<u8>, piece: &[u8]) -> Result<(), AllocError>
     ensures { OnOk result (strict.new.items ≡ followed_by strict.old.items (full_rate piece.now)) }
 {
@@ -135,7 +138,7 @@ fn push_strict(strict: &mut Vec<u8>, piece: &[u8]) -> Result<(), AllocError>
     Ok(())
 }
 
-/// Adds a piece, after a space where there is one before it.
+/// Appends a piece, after a space if the line is not empty.
 fn push_piece(strict: &mut Vec<u8>, piece: &[u8]) -> Result<(), AllocError>
     ensures { OnOk result (strict.new.items ≡ followed_by strict.old.items piece.now) }
 {
@@ -146,7 +149,7 @@ fn push_piece(strict: &mut Vec<u8>, piece: &[u8]) -> Result<(), AllocError>
     strict.extend_from_slice(piece)
 }
 
-/// Returns whether a parameter is a frame rate of one number.
+/// Returns whether a parameter is a frame rate of a single number.
 fn is_whole_rate(piece: &[u8]) -> bool
     ensures { result ≡ is_whole_rate piece.now }
 {

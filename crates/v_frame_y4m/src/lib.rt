@@ -1,4 +1,4 @@
-//! YUV4MPEG2 streams: raw planar video after a header line that says its size, its rate and its color.
+//! YUV4MPEG2 streams: raw planar video after a header line that states the size, the frame rate and the color.
 //!
 //! ```text
 //! YUV4MPEG2 W176 H144 F25:1 Ip A1:1 C420jpeg XYSCSS=420JPEG    the header line
@@ -8,14 +8,15 @@
 //! ...
 //! ```
 //!
-//! [`read_header`] and then [`read_frame`] until it answers `false` read a stream; [`write_header`] and [`write_frame`]
-//! write one. Between the two stands a [`StreamHeader`], which says by [`StreamHeader::frame`] what frames to read into.
+//! To read a stream, call [`read_header`] once, and then [`read_frame`] until it returns `false`. To write a stream, call
+//! [`write_header`] once, and then [`write_frame`] for each frame. A [`StreamHeader`] describes the stream, and
+//! [`StreamHeader::frame`] allocates a frame to read into.
 //!
-//! Lines that lax producers write are read by [`read_lax_header`] and [`read_lax_frame_line`], each as the strict line that
-//! it stands for; `Rattle.v_frame_y4m.specs.Lax` says which. What is written is strict.
+//! [`read_lax_header`] and [`read_lax_frame_line`] also accept some deviations from the format, and read each such line as the
+//! strict line that it means. Lines that are written are always strict.
 //!
-//! Our own. `Rattle.v_frame_y4m.specs.Header` has the grammar of the header line, and `Rattle.v_frame_y4m.specs.Streams`
-//! what the calls leave.
+//! `Rattle.v_frame_y4m.specs.Header` defines the grammar of the header line. `Rattle.v_frame_y4m.specs.Lax` defines the
+//! deviations that are accepted. `Rattle.v_frame_y4m.specs.Streams` defines the effect of each call on the stream.
 #![tactic(auto)]
 
 mod color;

@@ -1,4 +1,4 @@
-//! The line that is written for a header.
+//! Writes the header line.
 ghost use Rattle.std.specs.Prelude.{◌≡◌, ◌++◌, ◌∷◌, [], decimal, map, IfOk, OnOk};
 ghost use Rattle.v_frame_y4m.specs.Ascii.{color_letter, extension_letter, height_letter, interlacing_letter, line_feed, space, width_letter};
 ghost use Rattle.v_frame_y4m.specs.Color.{color_text, stated};
@@ -10,12 +10,12 @@ use crate::parsing::SIGNATURE;
 use std::alloc::{AllocError, Global};
 use v_frame::sequence::Sequence;
 
-/// Returns the line of a header, without its line feed: `YUV4MPEG2`, and then W, H, F, I, A, C and each X, as ffmpeg writes
-/// them.
+/// Returns the header line of `header` without its line feed: `YUV4MPEG2`, followed by W, H, F, I, A, C and each X, in the
+/// order of ffmpeg.
 ///
 /// # Errors
 ///
-/// [`AllocError`] where a request for memory was refused.
+/// [`AllocError`] if a memory allocation fails.
 pub fn header_line(alloc: Global, header: &StreamHeader) -> Result<Vec<u8>, AllocError>
     ensures { IfOk result (λ line. line.items ≡ header_line header.now) }
 {
@@ -24,11 +24,11 @@ pub fn header_line(alloc: Global, header: &StreamHeader) -> Result<Vec<u8>, Allo
     Ok(line)
 }
 
-/// Returns the line of a header with its line feed.
+/// Returns the header line of `header` with its line feed.
 ///
 /// # Errors
 ///
-/// [`AllocError`] where a request for memory was refused.
+/// [`AllocError`] if a memory allocation fails.
 pub fn header_line_with_newline(alloc: Global, header: &StreamHeader) -> Result<Vec<u8>, AllocError>
     ensures { IfOk result (λ line. line.items ≡ header_line header.now ++ line_feed ∷ []) }
 {
@@ -37,7 +37,7 @@ pub fn header_line_with_newline(alloc: Global, header: &StreamHeader) -> Result<
     Ok(line)
 }
 
-/// Adds the parameters.
+/// Appends the parameters.
 fn push_parameters(
     alloc: Global,
     line: &mut Vec<u8>,
@@ -53,7 +53,7 @@ fn push_parameters(
     push_extensions(line, header.extensions.as_slice())
 }
 
-/// Adds a space, a letter and a text.
+/// Appends a space, a letter and a text.
 fn push(line: &mut Vec<u8>, letter: u8, text: &[u8]) -> Result<(), AllocError>
     ensures { OnOk result (line.new.items ≡ line.old.items ++ space ∷ (letter ∷ text.now)) }
 {
@@ -62,7 +62,7 @@ fn push(line: &mut Vec<u8>, letter: u8, text: &[u8]) -> Result<(), AllocError>
     line.extend_from_slice(text)
 }
 
-/// Adds the width and the height.
+/// Appends the width and the height.
 fn push_size(
     alloc: Global,
     line: &mut Vec<u8>,
@@ -76,7 +76,7 @@ fn push_size(
     push(line, b'H', height.to_string(alloc)?.as_bytes())
 }
 
-/// Adds a ratio, where it is there.
+/// Appends a ratio, if there is one.
 fn push_ratio(
     alloc: Global,
     line: &mut Vec<u8>,
@@ -92,7 +92,7 @@ fn push_ratio(
     }
 }
 
-/// Adds the interlacing, where it is there.
+/// Appends the interlacing, if it is known.
 fn push_interlacing(line: &mut Vec<u8>, interlacing: Option<Interlacing>) -> Result<(), AllocError>
     ensures { OnOk result (line.new.items ≡ line.old.items
         ++ spelled (parameter_of interlacing_letter interlacing_text interlacing)) }
@@ -103,7 +103,7 @@ fn push_interlacing(line: &mut Vec<u8>, interlacing: Option<Interlacing>) -> Res
     }
 }
 
-/// Adds the color, where a parameter says it.
+/// Appends the color, unless it is unstated.
 fn push_color(line: &mut Vec<u8>, color: Color) -> Result<(), AllocError>
     ensures { OnOk result (line.new.items ≡ line.old.items
         ++ spelled (parameter_of color_letter color_text (stated color))) }
@@ -114,7 +114,7 @@ fn push_color(line: &mut Vec<u8>, color: Color) -> Result<(), AllocError>
     push(line, b'C', color.text().as_bytes())
 }
 
-/// Adds the extensions.
+/// Appends the extensions.
 fn push_extensions(line: &mut Vec<u8>, extensions: &[Sequence<u8>]) -> Result<(), AllocError>
     ensures { OnOk result (line.new.items ≡ line.old.items
         ++ spelled (map (λ text. extension_letter ∷ text) extensions.now)) }

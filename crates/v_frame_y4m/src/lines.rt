@@ -1,4 +1,4 @@
-//! Lines of a stream, read byte by byte, so that nothing after them is taken.
+//! Reads lines of a stream byte by byte, so that nothing after a line is consumed.
 ghost use Rattle.std.specs.Prelude.{◌≡◌, ◌≢◌, ◌≤◌, ◌++◌, ◌∷◌, [], length, take, All, IfOk, IfErr, IfSome, OnOk, MatchOption, MatchResult};
 ghost use Rattle.std.specs.Io.KnownBytes.{Consumes, IsAtEnd};
 ghost use Rattle.v_frame_y4m.specs.Ascii.{line_feed};
@@ -8,8 +8,8 @@ use crate::error::Y4mError;
 use std::io;
 use v_frame_planar::{Counted, PlanarError};
 
-/// Reads a line to the front of a buffer, which is as long as a line may be, and returns its length without its line feed.
-/// `None` where the reader stood at its end before the first byte.
+/// Reads a line into the front of the buffer `line` and returns its length without the line feed. The buffer is as long as the
+/// longest line that is accepted. Returns `None` if the reader was at its end.
 pub(crate) fn read_line<R: io::Read>(
     reader: &mut Counted<R>,
     line: &mut [u8],
@@ -40,7 +40,7 @@ pub(crate) fn read_line<R: io::Read>(
     }
 }
 
-/// Reads one byte. `None` where the reader stands at its end.
+/// Reads one byte. Returns `None` if the reader is at its end.
 fn read_byte<R: io::Read>(reader: &mut Counted<R>) -> Result<Option<u8>, Y4mError>
     ensures read { IfOk result (λ found. MatchOption found
         (Consumes (R.remaining reader.old.inner) (R.remaining reader.new.inner) []

@@ -1,4 +1,4 @@
-//! Numbers as they stand in a header: decimal digits without a leading zero.
+//! Numbers in a header: decimal digits without a leading zero.
 ghost use Rattle.std.specs.Prelude.{ℕ, ◌≡◌, ◌≢◌, ◌↔◌, ◌^◌, ◌<◌, decimal, length, slice_index, IsTrue, MatchOption};
 ghost use Rattle.v_frame_y4m.specs.Ascii.{digit_zero, plus_sign};
 ghost use Rattle.v_frame_y4m.specs.Faults.{AreDigits};
@@ -8,7 +8,7 @@ ghost use Rattle.v_frame_y4m.specs.declared.header.Ratio.{Ratio as TheRatio};
 use crate::header::Ratio;
 use std::str;
 
-/// Returns the number that these digits spell, where no other text would be written for it.
+/// Parses a number. Returns `None` unless `digits` is the text that would be written for that number.
 pub(crate) fn number(digits: &[u8]) -> Option<u64>
     ensures { MatchOption result ((n : ℕ) → n < 2 ^ 64 → digits.now ≢ decimal n)
         (λ n. digits.now ≡ decimal n) }
@@ -19,7 +19,7 @@ pub(crate) fn number(digits: &[u8]) -> Option<u64>
     }
 }
 
-/// The same of text.
+/// Parses a number, given as text.
 fn number_of(digits: &str) -> Option<u64>
     ensures { MatchOption result ((n : ℕ) → n < 2 ^ 64 → digits.now ≢ decimal n)
         (λ n. digits.now ≡ decimal n) }
@@ -33,7 +33,7 @@ fn number_of(digits: &str) -> Option<u64>
     }
 }
 
-/// Returns whether the digits begin as those that are written for a number.
+/// Returns whether the digits begin like those of a number that is written: without a plus sign, and without a leading zero.
 fn has_canonical_start(digits: &[u8]) -> bool
     ensures { IsTrue result ↔ ((slice_index digits.now 0 ≢ plus_sign)
         × (slice_index digits.now 0 ≡ digit_zero → length digits.now ≡ 1)) }
@@ -52,7 +52,7 @@ pub(crate) fn are_digits(text: &[u8]) -> bool
     begins_above_zero(text) && text.iter().all(|&byte| byte >= b'0' && byte <= b'9')
 }
 
-/// Returns whether the first byte is above that of `0`.
+/// Returns whether the first byte is greater than the byte of `0`.
 fn begins_above_zero(text: &[u8]) -> bool
     ensures { IsTrue result ↔ (digit_zero < slice_index text.now 0) }
 {
@@ -62,7 +62,7 @@ fn begins_above_zero(text: &[u8]) -> bool
     }
 }
 
-/// Returns the two numbers with a colon between.
+/// Parses two numbers with a colon between them.
 pub(crate) fn ratio(text: &[u8]) -> Option<Ratio>
     ensures { MatchOption result ((r : TheRatio) → FitsRatio r → text.now ≢ ratio_text r)
         (λ r. text.now ≡ ratio_text r) }
@@ -73,7 +73,7 @@ pub(crate) fn ratio(text: &[u8]) -> Option<Ratio>
     }
 }
 
-/// The same of text.
+/// Parses two numbers with a colon between them, given as text.
 fn ratio_of(text: &str) -> Option<Ratio>
     ensures { MatchOption result ((r : TheRatio) → FitsRatio r → text.now ≢ ratio_text r)
         (λ r. text.now ≡ ratio_text r) }
@@ -84,7 +84,7 @@ fn ratio_of(text: &str) -> Option<Ratio>
     }
 }
 
-/// Returns the ratio of two numbers.
+/// Parses the two numbers of a ratio.
 fn ratio_between(numerator: &str, denominator: &str) -> Option<Ratio>
     ensures { MatchOption result ((r : TheRatio) → FitsRatio r → numerator.now ≡ decimal r.numerator
         → denominator.now ≢ decimal r.denominator)

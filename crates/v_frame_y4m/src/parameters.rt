@@ -1,4 +1,4 @@
-//! The pieces of a header line, and those among them that have a letter.
+//! The pieces of a header line, and its parameters by letter.
 ghost use Rattle.std.specs.Prelude.{List, ℕ, ◌≡◌, ◌↔◌, ◌∷◌, map, slice_index, All, Contains, IfOk, IfErr, IfSome, IsTrue};
 ghost use Rattle.v_frame_y4m.specs.Ascii.{extension_letter};
 ghost use Rattle.v_frame_y4m.specs.Faults.{HasFault, IsOnce};
@@ -9,17 +9,17 @@ use crate::text::Text;
 use std::alloc::{AllocError, Global};
 use v_frame::sequence::Sequence;
 
-/// The letters that a parameter may begin with.
+/// The letters of the parameters.
 const LETTERS: [u8; 7] = *b"WHFIACX";
 
-/// Returns the pieces of a line between its spaces.
+/// Splits a line at its spaces.
 pub(crate) fn pieces_of(alloc: Global, line: &[u8]) -> Result<Vec<&[u8]>, AllocError>
     ensures { IfOk result (λ found. texts_of found.items ≡ pieces line.now) }
 {
     line.split(|&byte| byte == b' ').collect(alloc)
 }
 
-/// Refuses parameters of unknown letters.
+/// Rejects parameters with unknown letters.
 pub(crate) fn check_letters(alloc: Global, parameters: &[&[u8]]) -> Result<(), HeaderError>
     ensures ok { IfOk result (λ _.
         All (λ parameter. Contains letters (slice_index parameter 0)) (texts_of parameters.now)) }
@@ -33,7 +33,8 @@ pub(crate) fn check_letters(alloc: Global, parameters: &[&[u8]]) -> Result<(), H
     Ok(())
 }
 
-/// Returns the error that a parameter is malformed, if there is memory to say it.
+/// Returns the error for a malformed parameter. Returns the error for a failed memory allocation if the parameter cannot be
+/// copied into the error.
 pub(crate) fn malformed(alloc: Global, text: &[u8]) -> HeaderError
     ensures { (parameters : List (List ℕ))
         → HasFault parameters (HeaderError.Malformed (record { bytes = text.now }))
@@ -45,7 +46,7 @@ pub(crate) fn malformed(alloc: Global, text: &[u8]) -> HeaderError
     }
 }
 
-/// Returns whether the first byte is one of the letters.
+/// Returns whether the first byte is one of the known letters.
 fn has_known_letter(parameter: &[u8]) -> bool
     ensures { IsTrue result ↔ Contains letters (slice_index parameter.now 0) }
 {
@@ -55,7 +56,7 @@ fn has_known_letter(parameter: &[u8]) -> bool
     }
 }
 
-/// Returns the parameter of a letter that may stand once, and what stands in it after the letter.
+/// Returns the parameter with this letter, and the text after the letter. The letter may occur only once.
 pub(crate) fn unique_parameter<'a>(
     parameters: &[&'a [u8]],
     letter: u8,
@@ -80,7 +81,7 @@ pub(crate) fn unique_parameter<'a>(
     Ok(found)
 }
 
-/// What stands after the letter of each `X`.
+/// Returns the texts after the letter of each `X`.
 pub(crate) fn extensions(
     alloc: Global,
     parameters: &[&[u8]],

@@ -1,4 +1,4 @@
-//! Headers from their lines.
+//! Parses header lines.
 ghost use Rattle.std.specs.Prelude.{◌≡◌, ◌<◌, ◌⊎◌, ◌↔◌, ◌∷◌, [], decimal, IfOk, IfErr, IsTrue};
 ghost use Rattle.v_frame_y4m.specs.Ascii.{aspect_letter, color_letter, height_letter, interlacing_letter, rate_letter, width_letter};
 ghost use Rattle.v_frame_y4m.specs.Color.{color_text, stated};
@@ -13,17 +13,17 @@ use crate::parameters::{check_letters, extensions, malformed, pieces_of, unique_
 use crate::text::Text;
 use std::alloc::Global;
 
-/// What a header line begins with.
+/// The first piece of each header line.
 pub(crate) const SIGNATURE: &[u8] = b"YUV4MPEG2";
 
-/// What a header line says, without its line feed.
-///
-/// Numbers are read as they are written: decimal digits without a leading zero.
+/// Parses a header line, given without its line feed. Parameters may be in any order. A number must be in the form in which it
+/// is written: decimal digits without a leading zero.
 ///
 /// # Errors
 ///
-/// [`HeaderError::NotAStream`] where the line does not begin with `YUV4MPEG2` as a piece of its own, and else what is wrong
-/// with its parameters, [`HeaderError::OutOfMemory`] where a request for memory was refused.
+/// - [`HeaderError::NotAStream`] if the first piece of the line is not `YUV4MPEG2`.
+/// - [`HeaderError::OutOfMemory`] if a memory allocation fails.
+/// - Any other [`HeaderError`] if a parameter is missing, repeated or malformed.
 pub fn parse_header(alloc: Global, line: &[u8]) -> Result<StreamHeader, HeaderError>
     ensures found { IfOk result (IsHeader line.now) }
     ensures refused { IfErr result (IsRefusedFor line.now) }
@@ -35,14 +35,14 @@ pub fn parse_header(alloc: Global, line: &[u8]) -> Result<StreamHeader, HeaderEr
     header_of(alloc, &pieces[1..])
 }
 
-/// Returns whether this is what a header line begins with.
+/// Returns whether `piece` is the first piece of a header line.
 fn is_signature(piece: &[u8]) -> bool
     ensures { IsTrue result ↔ (piece.now ≡ signature) }
 {
     piece == SIGNATURE
 }
 
-/// What parameters say.
+/// Parses the parameters.
 fn header_of(alloc: Global, parameters: &[&[u8]]) -> Result<StreamHeader, HeaderError>
     ensures says { IfOk result (Says (texts_of parameters.now)) }
     ensures size { IfOk result HasSize }
@@ -79,7 +79,7 @@ fn size(alloc: Global, parameters: &[&[u8]]) -> Result<(usize, usize), HeaderErr
     ))
 }
 
-/// Returns the width or the height, in pixels.
+/// Returns the width or the height in pixels, depending on the letter.
 fn length(alloc: Global, parameters: &[&[u8]], letter: u8) -> Result<usize, HeaderError>
     requires { (letter ≡ width_letter) ⊎ (letter ≡ height_letter) }
     ensures ok { IfOk result (λ n. (of_letter letter (texts_of parameters.now)
@@ -97,7 +97,7 @@ fn length(alloc: Global, parameters: &[&[u8]], letter: u8) -> Result<usize, Head
     }
 }
 
-/// Returns the frame rate and the pixel aspect.
+/// Returns the frame rate and the pixel aspect ratio.
 fn ratios(
     alloc: Global,
     parameters: &[&[u8]],
@@ -114,7 +114,7 @@ fn ratios(
     ))
 }
 
-/// Returns the ratio of a letter.
+/// Returns the ratio of the parameter with this letter.
 fn rate(alloc: Global, parameters: &[&[u8]], letter: u8) -> Result<Option<Ratio>, HeaderError>
     requires { (letter ≡ rate_letter) ⊎ (letter ≡ aspect_letter) }
     ensures ok { IfOk result (λ r. of_letter letter (texts_of parameters.now)
@@ -130,7 +130,7 @@ fn rate(alloc: Global, parameters: &[&[u8]], letter: u8) -> Result<Option<Ratio>
     }
 }
 
-/// How the rows go with time.
+/// Returns the interlacing.
 fn interlacing(alloc: Global, parameters: &[&[u8]]) -> Result<Option<Interlacing>, HeaderError>
     ensures ok { IfOk result (λ i. of_letter interlacing_letter (texts_of parameters.now)
         ≡ parameter_of interlacing_letter interlacing_text i) }

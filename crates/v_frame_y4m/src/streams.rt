@@ -1,4 +1,4 @@
-//! Streams read and written: the header, and then frame by frame.
+//! Reads and writes streams: the header first, then frame by frame.
 ghost use Rattle.std.specs.Prelude.{ℕ, ◌≡◌, ◌≤◌, ◌↔◌, ◌++◌, ◌∷◌, [], codes, false, length, IfOk, IfErr, IsTrue, MatchResult, OnOk, OnErr};
 ghost use Rattle.std.specs.Io.KnownBytes.{Appends, Consumes};
 ghost use Rattle.v_frame.specs.Prelude.{isize_max, KeepsBorders, tables_of};
@@ -18,17 +18,20 @@ use v_frame::frame::Frame;
 use v_frame::pixel::Pixel;
 use v_frame_planar::{Counted, PlanarError, planar_len};
 
-/// How many bytes a line of a stream may have, without its line feed.
+/// The largest number of bytes of a line that is accepted, without its line feed.
 pub const MAX_LINE_BYTES: usize = 1024;
 
-/// Reads the header line of a stream. Nothing after its line feed is read: bytes are asked for one by one, so put a
-/// `BufReader` into the [`Counted`].
+/// Reads the header line of a stream. Nothing after its line feed is read.
+///
+/// The reader is called for one byte at a time. To avoid a system call for each byte, put a `BufReader` into the [`Counted`].
 ///
 /// # Errors
 ///
-/// [`Y4mError::LineTooLong`] where no line feed stands among the first 1025 bytes, [`Y4mError::UnfinishedLine`] where the
-/// reader came to its end before one, [`Y4mError::Header`] with what is wrong with the line, and of [`PlanarError`]
-/// `Read` where a read failed, an interrupted one too, which is not tried again; [`Counted::last_failure`] says why.
+/// - [`Y4mError::LineTooLong`] if the first 1025 bytes contain no line feed.
+/// - [`Y4mError::UnfinishedLine`] if the stream ends before a line feed.
+/// - [`Y4mError::Header`] if the line is not a valid header, or if a memory allocation fails.
+/// - [`PlanarError::Read`] in [`Y4mError::Planar`] if a read fails. An interrupted read counts as failed and is not retried.
+///   [`Counted::last_failure`] returns the cause.
 pub fn read_header<R: io::Read>(
     alloc: Global,
     reader: &mut Counted<R>,
@@ -47,16 +50,22 @@ pub fn read_header<R: io::Read>(
     Ok(parse_header(alloc, &line[..length])?)
 }
 
-/// Writes the line of a header, with its line feed.
+/// Writes the header line of a stream, with its line feed. The header must be writable, which [`StreamHeader::is_writable`]
+/// tests.
 ///
-/// The parameters stand in ffmpeg's order: W, H, F, I, A, C and each X. So a header that was read from a line in this order
-/// is written as the same bytes. [`StreamHeader::is_writable`] is the test of what this asks.
+/// The parameters are written in the order of ffmpeg: W, H, F, I, A, C and each X. So a header that was read from a line in
+/// this order is written as the same bytes.
 ///
 /// # Errors
 ///
-/// Of [`PlanarError`] `OutOfMemory` where a request for memory was refused: then nothing was written. `Write` where a write
-/// failed, an interrupted one too, which is not tried again; [`Counted::last_failure`] says why. `WriteZero` where a write
-/// took none of the bytes that it was offered. After these a beginning of the line was written.
+/// Errors are in [`Y4mError::Planar`]:
+///
+/// - [`PlanarError::OutOfMemory`] if a memory allocation fails. Nothing was written then.
+/// - [`PlanarError::Write`] if a write fails. An interrupted write counts as failed and is not retried.
+///   [`Counted::last_failure`] returns the cause.
+/// - [`PlanarError::WriteZero`] if a write accepts none of the bytes.
+///
+/// After the last two, part of the line may have been written.
 pub fn write_header<W: io::Write>(
     alloc: Global,
     writer: &mut Counted<W>,
@@ -76,17 +85,21 @@ pub fn write_header<W: io::Write>(
     Ok(())
 }
 
-/// Reads a frame, the line `FRAME` and the planar bytes after it, and shows it. `false` where the reader stood at its end
-/// before the first byte of the line.
+/// Reads the next frame, which is a `FRAME` line and the planar bytes after it, into `frame`. Returns `false` if the reader was
+/// at its end.
 ///
-/// The sizes of the frame say how many bytes it has; [`StreamHeader::frame`] gives one of the right sizes. Nothing after
-/// the frame is read, and its border stays. Parameters after `FRAME` are passed over.
+/// The sizes of the planes of `frame` determine how many bytes are read. [`StreamHeader::frame`] allocates a frame with the
+/// right sizes. Nothing after the frame is read. The padding of `frame` is unchanged. Parameters after `FRAME` are ignored.
 ///
 /// # Errors
 ///
-/// [`Y4mError::NoFrame`] where another line stands in its place, [`Y4mError::LineTooLong`] and [`Y4mError::UnfinishedLine`]
-/// for that line, and the errors of [`v_frame_planar::read_frame`], with
-/// `Truncated` also where no byte stands after the line. After each of them the frame is as it was.
+/// - [`Y4mError::NoFrame`] if the next line is not a `FRAME` line.
+/// - [`Y4mError::LineTooLong`] or [`Y4mError::UnfinishedLine`] if the line has no line feed within the limit, or before the end
+///   of the stream.
+/// - [`Y4mError::Planar`] with an error of [`v_frame_planar::read_frame`]. It is `Truncated` also if the stream ends right
+///   after the line.
+///
+/// After an error, `frame` is unchanged.
 pub fn read_frame<T: Pixel, R: io::Read>(
     alloc: Global,
     reader: &mut Counted<R>,
@@ -112,16 +125,18 @@ pub fn read_frame<T: Pixel, R: io::Read>(
     Ok(true)
 }
 
-/// Reads the line in front of a frame, `FRAME` with its parameters. `false` where the reader stood at its end before it.
+/// Reads the line in front of a frame, which is `FRAME` and its parameters. Returns `false` if the reader was at its end.
 ///
-/// [`read_frame`] reads it with the planar bytes after it. By itself it serves those who pass over a frame, or take its bytes
-/// as they are: [`StreamHeader::frame_len`] says how many follow.
+/// [`read_frame`] reads this line together with the bytes of the frame. Call `read_frame_line` to skip a frame or to copy its
+/// bytes. [`StreamHeader::frame_len`] returns the number of bytes that follow.
 ///
 /// # Errors
 ///
-/// [`Y4mError::NoFrame`] where another line stands in its place, [`Y4mError::LineTooLong`] and [`Y4mError::UnfinishedLine`],
-/// and of [`PlanarError`] `Read` where a read failed, an interrupted one too, which is not tried again;
-/// [`Counted::last_failure`] says why.
+/// - [`Y4mError::NoFrame`] if the next line is not a `FRAME` line.
+/// - [`Y4mError::LineTooLong`] or [`Y4mError::UnfinishedLine`] if the line has no line feed within the limit, or before the end
+///   of the stream.
+/// - [`PlanarError::Read`] in [`Y4mError::Planar`] if a read fails. An interrupted read counts as failed and is not retried.
+///   [`Counted::last_failure`] returns the cause.
 pub fn read_frame_line<R: io::Read>(reader: &mut Counted<R>) -> Result<bool, Y4mError>
     ensures read { IfOk result (ReadsFrame R.remaining reader.old reader.new []) }
     ensures uncounted { OnOk result (reader.new.failures ≡ reader.old.failures) }
@@ -138,8 +153,8 @@ pub fn read_frame_line<R: io::Read>(reader: &mut Counted<R>) -> Result<bool, Y4m
     }
 }
 
-/// Returns whether this line, without its line feed, is one in front of a frame: `FRAME`, and parameters after a space, if
-/// any.
+/// Returns whether `line`, which has no line feed, is a line in front of a frame: `FRAME`, optionally followed by a space and
+/// parameters.
 pub fn is_frame_line(line: &[u8]) -> bool
     ensures { IsTrue result ↔ IsFrameLine line.now }
 {
@@ -149,7 +164,7 @@ pub fn is_frame_line(line: &[u8]) -> bool
     }
 }
 
-/// Reads the planar bytes of a frame that is due.
+/// Reads the planar bytes that must follow a `FRAME` line.
 fn read_planar<T: Pixel, R: io::Read>(
     alloc: Global,
     reader: &mut Counted<R>,
@@ -172,7 +187,7 @@ fn read_planar<T: Pixel, R: io::Read>(
     Err(nothing_found(frame))
 }
 
-/// Returns the error where the reader stands at its end after the line of a frame.
+/// Returns the error of a stream that ends right after a `FRAME` line.
 fn nothing_found<T: Pixel>(frame: &Frame<T>) -> Y4mError
     requires { length (planar_bytes T.form (tables_of frame.now)) ≤ isize_max }
     ensures { result ≡ Y4mError.Planar
@@ -188,9 +203,13 @@ fn nothing_found<T: Pixel>(frame: &Frame<T>) -> Y4mError
 ///
 /// # Errors
 ///
-/// Of [`PlanarError`] `Write` where a write failed, an interrupted one too, which is not tried again;
-/// [`Counted::last_failure`] says why. `WriteZero` where a write took none of the bytes that it was offered. After these a
-/// beginning of the line and the bytes was written.
+/// Errors are in [`Y4mError::Planar`]:
+///
+/// - [`PlanarError::Write`] if a write fails. An interrupted write counts as failed and is not retried.
+///   [`Counted::last_failure`] returns the cause.
+/// - [`PlanarError::WriteZero`] if a write accepts none of the bytes.
+///
+/// Part of the frame may have been written then.
 pub fn write_frame<T: Pixel, W: io::Write>(
     writer: &mut Counted<W>,
     frame: &Frame<T>,

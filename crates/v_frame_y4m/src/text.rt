@@ -1,4 +1,4 @@
-//! A piece of a line as it came, of whatever bytes, for messages.
+//! Parts of header lines for error messages.
 ghost use Rattle.std.specs.Prelude.{◌≡◌, IfOk};
 ghost use Rattle.v_frame_y4m.specs.Ascii.{shown_byte};
 
@@ -6,19 +6,19 @@ use std::alloc::{AllocError, Global};
 use std::fmt;
 use v_frame::sequence::Sequence;
 
-/// A piece of a header line as it came. It is shown byte by byte, those that are no printed ASCII as `?`.
+/// A part of a header line, with arbitrary bytes. It is displayed with `?` for each byte that is not printable ASCII.
 #[derive(Debug, PartialEq, Eq, Drop)]
 pub struct Text {
-    /// Its bytes.
+    /// The bytes of the part.
     pub bytes: Sequence<u8>,
 }
 
 impl Text {
-    /// Returns a copy of these bytes.
+    /// Returns a copy of `bytes`.
     ///
     /// # Errors
     ///
-    /// [`AllocError`] where the request for memory was refused.
+    /// [`AllocError`] if a memory allocation fails.
     pub fn new(alloc: Global, bytes: &[u8]) -> Result<Self, AllocError>
         ensures { IfOk result (λ text. text.bytes ≡ bytes.now) }
     {
@@ -26,7 +26,7 @@ impl Text {
         Ok(Text { bytes })
     }
 
-    /// Returns the character that a message shows for a byte: its own where it is printed ASCII, else `?`.
+    /// Returns the character that a message displays for `byte`: the byte itself if it is printable ASCII, and `?` otherwise.
     pub fn shown(byte: u8) -> char
         ensures { result ≡ shown_byte byte }
     {

@@ -1,4 +1,4 @@
-//! Prints the PSNR of two raw files of 8-bit luma: psnr WIDTH HEIGHT FILE FILE
+//! Prints the PSNR of two raw files of 8-bit luma. Usage: psnr WIDTH HEIGHT FILE FILE
 use std::error::Error;
 use v_frame_proved::ops::rows::sum_of_squared_errors;
 use v_frame_proved::plane::RowsRef;

@@ -1,4 +1,4 @@
-//! Prints the PSNR of each frame of two y4m files, over all planes: psnr_of_frames FILE FILE
+//! Prints the PSNR of each pair of frames of two y4m files, over all planes. Usage: psnr_of_frames FILE FILE
 use std::error::Error;
 use std::fs::File;
 use v_frame_proved::y4m::Decoder;

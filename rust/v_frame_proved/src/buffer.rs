@@ -1,34 +1,35 @@
 //! The buffer of a plane: a list of fixed length.
 //!
-//! It is written by hand: in Rattle it is raw memory behind five functions with pointers, and here a `Vec`, without `unsafe`.
-//! It begins at an address that 64 divides: it has some entries more, and begins at the first one that is there.
+//! This module is written by hand. The proved source uses raw memory behind five functions with pointers, and this module uses
+//! a `Vec` without `unsafe` code. The first entry is aligned to 64 bytes: the `Vec` has some additional entries, and the buffer
+//! begins at its first aligned entry.
 
 use crate::support::AllocError;
 use alloc::vec::Vec;
 use core::fmt;
 
-/// What divides the address of the first entry.
+/// The alignment of the first entry in bytes.
 const ALIGNMENT: usize = 64;
 
-/// How many entries are copied at once: one copy of megabytes took up to 1.3 of the time.
+/// The number of entries that are copied at once. A single copy of several megabytes took up to 1.3 times as long.
 const BLOCK: usize = 2048;
 
 /// The entries of a buffer.
 pub struct AlignedData<T> {
-    // The buffer is what stands from index `start` on.
+    // The buffer consists of the entries from index `start` on.
     entries: Vec<T>,
     start: usize,
 }
 
-/// Returns how many entries are in front of the first one that is aligned, at most: so many entries and one more take a multiple
-/// of the alignment, whatever the size of an entry.
+/// Returns the largest number of entries in front of the first aligned one. Together with one more entry, their size is a
+/// multiple of the alignment, whatever the size of an entry.
 #[inline]
 fn slack<T>() -> usize {
     let common_twos = size_of::<T>().trailing_zeros().min(ALIGNMENT.trailing_zeros());
     (ALIGNMENT >> common_twos) - 1
 }
 
-/// Returns an empty list with room for so many entries.
+/// Returns an empty list with capacity for `count` entries.
 #[inline]
 fn room<T>(count: usize) -> Result<Vec<T>, AllocError> {
     let mut entries = Vec::new();
@@ -37,7 +38,7 @@ fn room<T>(count: usize) -> Result<Vec<T>, AllocError> {
 }
 
 impl<T> AlignedData<T> {
-    /// Returns a buffer that is filled by `fill`, which makes a list of a length longer, within its room.
+    /// Returns a buffer that is filled by `fill`, which extends a list to a given length within its capacity.
     #[inline]
     fn filled(len: usize, fill: impl Fn(&mut Vec<T>, usize)) -> Result<Self, AllocError> {
         if len == 0 {
@@ -51,7 +52,7 @@ impl<T> AlignedData<T> {
         Ok(AlignedData { entries, start })
     }
 
-    /// `len` copies of `value`. With `len` 0 it takes no memory.
+    /// Returns a buffer of `len` copies of `value`. No memory is allocated if `len` is 0.
     #[inline]
     pub fn new(value: T, len: usize) -> Result<Self, AllocError>
     where
@@ -60,7 +61,7 @@ impl<T> AlignedData<T> {
         Self::filled(len, |entries, start| entries.resize(start + len, value))
     }
 
-    /// The same entries in a buffer of their own. An empty buffer takes no memory.
+    /// Returns a copy of the buffer. No memory is allocated if the buffer is empty.
     #[inline]
     pub fn try_clone(&self) -> Result<Self, AllocError>
     where
@@ -81,25 +82,25 @@ impl<T> AlignedData<T> {
         self.entries.get(self.start..).unwrap_or_default()
     }
 
-    /// Returns the entries, for writing.
+    /// Returns the entries for writing.
     #[inline]
     pub fn as_mut_slice(&mut self) -> &mut [T] {
         &mut self.entries[self.start..]
     }
 
-    /// Returns the entries from `start` up to `end`, for writing.
+    /// Returns the entries from index `start` up to, but not including, index `end` for writing.
     #[inline]
     pub fn part_mut(&mut self, start: usize, end: usize) -> &mut [T] {
         &mut self.as_mut_slice()[start..end]
     }
 
-    /// Returns the entry at index `place`, for writing.
+    /// Returns the entry at index `place` for writing.
     #[inline]
     pub fn entry_mut(&mut self, place: usize) -> &mut T {
         &mut self.as_mut_slice()[place]
     }
 
-    /// Returns the entry `offset` places after index `start`, for writing. Returns `None` if the buffer ends before that entry.
+    /// Returns the entry `offset` places after index `start` for writing, or `None` if the buffer ends before that entry.
     ///
     /// # Panics
     ///
@@ -111,14 +112,14 @@ impl<T> AlignedData<T> {
 }
 
 impl<T> AlignedData<Option<T>> {
-    /// `len` entries without a value. With `len` 0 it takes no memory.
+    /// Returns a buffer of `len` entries without a value. No memory is allocated if `len` is 0.
     #[inline]
     pub fn without_values(len: usize) -> Result<Self, AllocError> {
         Self::filled(len, |entries, start| entries.resize_with(start + len, || None))
     }
 
-    /// Returns the values, moved in their order to a buffer of their own, which is not aligned: nothing is there to fill what
-    /// would stand in front of it. Where there is no memory for it, nothing is moved.
+    /// Moves the values, in their order, to a new buffer. The new buffer is not aligned, because no values are available to
+    /// fill the entries in front of it. If the allocation fails, nothing is moved and the buffer is returned.
     #[inline]
     pub fn into_values(self) -> Result<AlignedData<T>, Self> {
         match room(self.as_slice().len()) {
@@ -140,10 +141,10 @@ impl<T: PartialEq> PartialEq for AlignedData<T> {
 
 impl<T: Eq> Eq for AlignedData<T> {}
 
-/// How many entries the debug text of a buffer shows.
+/// The number of entries that the debug text of a buffer shows.
 const SHOWN_ENTRIES: usize = 5;
 
-/// The first entries, and two dots where there are more.
+/// Shows the first entries, and two dots if there are more.
 impl<T: fmt::Debug> fmt::Debug for AlignedData<T> {
     fn fmt(&self, f: &mut fmt::Formatter<'_>) -> fmt::Result {
         let entries = self.as_slice();
@@ -154,7 +155,7 @@ impl<T: fmt::Debug> fmt::Debug for AlignedData<T> {
     }
 }
 
-/// What no plane shows: buffers without entries, which no plane has.
+/// Tests buffers without entries, which planes never have.
 #[cfg(test)]
 mod tests {
     use super::AlignedData;

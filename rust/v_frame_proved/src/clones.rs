@@ -1,11 +1,11 @@
-//! `Clone` of planes and frames, which stops the program where there is no memory, as every clone of Rust does.
+//! `Clone` of planes and frames. If memory runs out, the program is aborted or panics, as with every clone in Rust.
 
 use crate::frame::Frame;
 use crate::pixel::Pixel;
 use crate::plane::Plane;
 use alloc::alloc::{Layout, handle_alloc_error};
 
-/// Ends the program as Rust does where a request for memory is refused.
+/// Stops the program in the way of Rust's own collections if a memory allocation fails.
 #[cold]
 fn stop<T>(entries: usize) -> ! {
     match Layout::array::<T>(entries) {

@@ -3,8 +3,8 @@
 #![forbid(unsafe_code)]
 #![warn(missing_debug_implementations, missing_docs)]
 #![no_std]
-// The sources are translated as they are written, for a prover too: loops count where clauses speak of indices, and a comparison or
-// a match says what a proof follows. These hints would have them otherwise.
+// The sources are translated as they were written for the prover: loops use indices that contracts refer to, and some
+// comparisons and matches exist because a proof needs them. These lints would suggest other forms.
 #![allow(
     clippy::extra_unused_type_parameters,
     clippy::len_zero,
@@ -81,7 +81,7 @@ pub use generated::{
 };
 pub use support::AllocError;
 
-// Written by hand, and not made from proved sources.
+// These modules are written by hand and not generated from proved sources.
 pub use by_hand::{crop, views};
 #[cfg(feature = "std")]
 pub use by_hand::{quality, y4m};

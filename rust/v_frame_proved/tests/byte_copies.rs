@@ -1,4 +1,4 @@
-//! Pixels and bytes that are copied into planes, packed and with a stride.
+//! Copies of pixels and bytes into planes, without gaps and with a stride.
 
 mod support;
 
@@ -7,20 +7,20 @@ use support::planes::{BORDERED, Layout, blank, bordered, must_be, must_show, sho
 use v_frame_proved::pixel::Pixel;
 use v_frame_proved::plane::{CopyError, Plane};
 
-/// The answer to a copy of another length.
+/// The result of a copy with the wrong length.
 fn length(expected: usize, found: usize) -> Result<(), CopyError> {
     Err(CopyError::DataLength { expected, found })
 }
 
-/// The answer to a stride that is too short.
+/// The result of a copy with a stride that is too short.
 fn stride(stride: usize, width: usize) -> Result<(), CopyError> {
     Err(CopyError::InvalidStride { stride, width })
 }
 
-/// The bytes of a copy and their stride, the answer, and the pixels after it.
+/// The bytes of a copy and their stride, the result, and the pixels after the copy.
 type Copied<'a, T> = (&'a [u8], usize, Result<(), CopyError>, &'a [T]);
 
-/// Copies bytes into a plane, one after the other, and fails where one is answered otherwise or leaves other pixels.
+/// Copies bytes into a plane, one copy after the other, and compares the results and the pixels.
 #[track_caller]
 fn check_copies<T: Pixel>(layout: Layout, pixels: &[T], copies: &[Copied<'_, T>]) {
     let mut plane = showing(layout, pixels);
@@ -108,17 +108,17 @@ fn pixels_of_another_number_change_nothing() {
     must_be(&plane, BORDERED, &[1, 2, 3, 4, 5, 6]);
 }
 
-/// Returns `count` bytes from `first` on, each a step more than the one before.
+/// Returns `count` bytes that begin with `first` and increase by `step`.
 fn stepped(first: u8, step: u8, count: usize) -> impl Iterator<Item = u8> {
     (0..count).scan(first, move |next, _| Some(std::mem::replace(next, next.wrapping_add(step))))
 }
 
-/// Returns the words of bytes, two each and the low one first.
+/// Returns the 16-bit words with these bytes, in little-endian order.
 fn words_of(bytes: &[u8]) -> Vec<u16> {
     bytes.chunks_exact(2).map(|pair| u16::from_le_bytes([pair[0], pair[1]])).collect()
 }
 
-/// Widths of planes of words and strides of their two rows, with the last pixel of the second.
+/// Widths of planes of 16-bit pixels, strides of their two rows in bytes, and the last pixel of the second row.
 const WIDTHS: [(usize, usize, u16); 5] =
     [(1, 3, 0x2720), (15, 31, 0xEBE4), (16, 33, 0xF9F2), (17, 35, 0x0700), (33, 67, 0xE7E0)];
 
@@ -139,9 +139,9 @@ fn words_of_each_width_are_copied_by_strides() {
     }
 }
 
-/// Widths of planes of words, with the first pixel of the second row and its last one.
+/// Widths of planes of 16-bit pixels, with the first and the last pixel of the second row.
 ///
-/// Byte j of the source is 37 j + 11 in one byte, and pixel i has the bytes 2 i and 2 i + 1, the low one first.
+/// Byte j of the source is 37 j + 11 modulo 256, and pixel i has the bytes 2 i and 2 i + 1, in little-endian order.
 const PACKED: [(usize, u16, u16); 11] = [
     (16, 0xD0AB, 0x2601),
     (17, 0x1AF5, 0xBA95),
@@ -182,7 +182,7 @@ fn words_of_rows_of_each_length_come_from_their_bytes() {
     assert_eq!([0, 15, 16].map(|x| plane.data()[x]), [0x0100, 0x1F1E, 0x2120]);
 }
 
-/// Bytes that go through a plane come back in their order, without the tails of their rows.
+/// Copies bytes into a plane and out of it, which gives the same bytes without those after each row.
 fn go_through<T: Pixel>() {
     let (width, height) = (24 / size_of::<T>(), 8);
     let mut plane = bordered::<T>([width, height, 2, 0, 0, 0]);

@@ -1,4 +1,4 @@
-//! Charts whose writes fail after so many bytes, or take nothing there; the axis of numbers.
+//! Charts whose writes fail after some bytes, or accept no more bytes, and the labels of the vertical axis.
 
 #![cfg(feature = "std")]
 
@@ -24,7 +24,7 @@ fn each_write_of_a_chart_fails_in_turn() {
     }
 }
 
-/// What stands beside the axis of numbers of a chart of these, from below.
+/// Returns the labels of the vertical axis of a chart of these values, from the bottom.
 fn labels(values: &[f64]) -> String {
     let series = [Series { name: "Y", values }];
     let text = svg(&Chart { title: "title", unit: "unit", first: 1, series: &series }).expect("drawn");
@@ -33,8 +33,8 @@ fn labels(values: &[f64]) -> String {
     texts.collect::<Vec<_>>().join(" ")
 }
 
-/// A step is the least of 1, 2 and 5 times a power of ten that reaches a sixth of the way from the least number to the
-/// greatest, and the ends are multiples of it: the labels are by Python's fractions.
+/// A step is the smallest of 1, 2 and 5 times a power of ten that is at least a sixth of the range of the values, and the ends
+/// of the axis are multiples of it. The labels were computed with Python's fractions.
 #[test]
 fn an_axis_has_few_and_round_steps() {
     let cases: [(&[f64], &str); 17] = [
@@ -51,7 +51,8 @@ fn an_axis_has_few_and_round_steps() {
         (&[1e12, 6e12], "1e12 2e12 3e12 4e12 5e12 6e12"),
         (&[0.0, 3e-11], "0 5e-12 10e-12 15e-12 20e-12 25e-12 30e-12"),
         (&[1e15, 1e15], "999999999999000 1000000000000000 1000000000001000"),
-        // Over a step the number farthest from 0 is a whole one of floats, but lies behind that many steps.
+        // Divided by the step, the value farthest from 0 is an integer in floating-point numbers, but in exact arithmetic it
+        // exceeds that integer.
         (&[-0.02, 0.030000000000000002], "-0.02 -0.01 0.00 0.01 0.02 0.03 0.04"),
         (&[-0.030000000000000002, 0.02], "-0.04 -0.03 -0.02 -0.01 0.00 0.01 0.02"),
         (&[f64::NAN], "0.0 0.2 0.4 0.6 0.8 1.0"),
@@ -73,7 +74,7 @@ fn marks_of_large_numbers_are_evenly_apart() {
     assert!(places.windows(2).all(|pair| (pair[1] - pair[0] - first).abs() < 0.11), "{places:?}");
 }
 
-/// Returns the chart of so many series of these values, whose first frame has a number.
+/// Returns the chart of `count` series with these values, whose first frame has the number `first`.
 fn chart_of(title: &str, first: u64, count: usize, values: &[f64]) -> String {
     let series = vec![Series { name: "Y", values }; count];
     svg(&Chart { title, unit: "unit", first, series: &series }).expect("drawn")
@@ -103,7 +104,7 @@ fn colors_come_round_behind_the_seventh() {
     assert_eq!(lines[lines.len() - 9..], colors);
 }
 
-/// A band of the least to the greatest value stands behind a line of which one column has several values.
+/// A band from the smallest to the largest value is drawn behind a line if a column has several values.
 #[test]
 fn only_columns_of_several_values_have_a_band() {
     for (count, banded) in [(2, false), (847, false), (848, false), (849, true), (2000, true)] {

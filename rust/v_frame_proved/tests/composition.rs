@@ -1,4 +1,4 @@
-//! Planes composed of two, by what is left in whole buffers.
+//! Blends of two planes. The tests compare whole buffers.
 
 mod support;
 
@@ -10,13 +10,13 @@ use v_frame_proved::pixel::Pixel;
 
 const CASES: &str = include_str!("data/composition.txt");
 
-/// Returns the factors of the entries of sources, of targets, and of masks.
+/// Returns the factors for the entries of sources, targets and masks.
 fn factors() -> [usize; 3] {
     let all: Vec<usize> = values(CASES, "factors");
     [all[0], all[1], all[3]]
 }
 
-/// Returns how many values entries have: 0 stands for all words.
+/// Returns the number of different values of an entry. 0 stands for all 16-bit values.
 fn size<T: Pixel>() -> u16 {
     if size_of::<T>() == 1 { 256 } else { 0 }
 }
@@ -79,7 +79,7 @@ fn differences_are_shown() {
     cases(CASES, "difference").into_iter().for_each(|case| for_type!(differs, case));
 }
 
-/// Composes five pixels by three in rows that are nine entries apart.
+/// Blends five by three pixels in rows with a stride of nine entries.
 fn composes_rows<T: Pixel>(mut case: Case<'_>) {
     let [factor, target_factor, mask_factor] = factors();
     let (call, layout) = (case.word(), case.layout());

@@ -1,4 +1,4 @@
-//! Bit depths, ranges, chroma formats and sizes by whole ratios, by what is left in whole buffers.
+//! Conversions of bit depths, ranges, chroma formats and sizes. The tests compare whole buffers.
 
 #![cfg(feature = "std")]
 
@@ -19,7 +19,7 @@ use v_frame_proved::planar::video_frame;
 
 const CASES: &str = include_str!("data/conversions.txt");
 
-/// Returns the factors of the entries of sources, of targets, and of a third plane.
+/// Returns the factors for the entries of sources, targets and a third plane.
 fn factors() -> [usize; 3] {
     values(CASES, "factors")[..3].try_into().expect("three factors")
 }
@@ -146,7 +146,7 @@ fn sizes_are_halved() {
     cases(CASES, "halve").into_iter().for_each(|case| for_type!(halves, case));
 }
 
-/// Returns a frame of 16 by 6 pixels whose planes are numbered. The case names the depth, the size and the format.
+/// Returns a frame of 16 by 6 pixels whose planes are numbered. The case states the bit depth, the size and the format.
 fn frame<T: Pixel>(case: &mut Case<'_>) -> Frame<T> {
     let (depth, size) = (case.number(), case.number());
     let mut frame = FrameBuilder::new(16, 6, format(case.word()), depth).build::<T>().expect("a frame");
@@ -185,7 +185,7 @@ fn frames_of_other_sizes_or_depths_do_not_fit() {
     }
 }
 
-/// Returns a frame of a luma size and a format whose chroma planes have another size.
+/// Returns a frame with this luma size and format whose chroma planes have another size.
 fn with_chroma(luma: (usize, usize), format: ChromaSubsampling, chroma: (usize, usize)) -> Frame<u8> {
     let mut frame = video_frame::<u8>(luma.0, luma.1, format, 8, 0).expect("a frame");
     let other = video_frame::<u8>(chroma.0, chroma.1, Yuv444, 8, 0).expect("a frame");
@@ -195,14 +195,14 @@ fn with_chroma(luma: (usize, usize), format: ChromaSubsampling, chroma: (usize, 
 
 #[test]
 fn chroma_is_as_large_as_the_formats_say() {
-    // The size of chroma beside 101 by 99 of luma, rounded up.
+    // The size of chroma for 101 by 99 pixels of luma, rounded up.
     let sizes = [(Yuv420, (51, 50)), (Yuv422, (51, 99)), (Yuv411, (26, 99)), (Yuv444, (101, 99))];
     for (from, chroma) in sizes {
         for (to, other) in sizes {
             let (source, target) = (with_chroma((101, 99), from, chroma), with_chroma((101, 99), to, other));
             assert!(frames_fit(&source, &target), "{from:?} into {to:?}");
         }
-        // Both chroma planes are as small as each other says, and neither is as large as its format says.
+        // The chroma planes of both frames fit each other, but not the formats of the frames.
         for (columns, rows) in [(3, 3), (chroma.0 - 1, chroma.1), (chroma.0, chroma.1 + 1)] {
             let wrong = with_chroma((101, 99), from, (columns, rows));
             assert!(!frames_fit(&wrong, &wrong), "{from:?} with {columns} by {rows}");
@@ -211,10 +211,10 @@ fn chroma_is_as_large_as_the_formats_say() {
     let small = with_chroma((100, 100), Yuv420, (3, 3));
     assert!(!frames_fit(&small, &with_chroma((100, 100), Yuv444, (6, 6))));
     assert!(!frames_fit(&small, &with_chroma((100, 100), Yuv422, (3, 6))));
-    // Chroma that only one of both has is not asked for.
+    // Chroma that only one of the two frames has is not tested.
     let gray = video_frame::<u8>(100, 100, Monochrome, 8, 0).expect("a frame");
     assert!(frames_fit(&small, &gray) && frames_fit(&gray, &small));
-    // One plane alone is wrong.
+    // Only one plane is wrong.
     for index in [1, 2] {
         let mut wrong = with_chroma((100, 100), Yuv420, (50, 50));
         *wrong.plane_mut(index).expect("a plane") = small.plane(index).expect("a plane").clone();

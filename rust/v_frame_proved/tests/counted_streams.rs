@@ -1,4 +1,4 @@
-//! Streams that count their failures and keep the cause of the last one: how often they are called, and what goes out.
+//! Streams that count their failures and keep the cause of the last one: the number of calls, and the bytes that are written.
 
 #![cfg(feature = "std")]
 
@@ -29,8 +29,8 @@ fn a_write_is_one_call_and_no_flush() {
 
 #[test]
 fn writing_all_calls_until_all_is_taken_or_a_call_fails() {
-    // How many bytes a call takes, how many calls do: the answer, the calls, the failures, and how many bytes are
-    // taken.
+    // The number of bytes that a call accepts, the number of calls that succeed, the result, the number of calls, the number of
+    // failures, and the number of bytes accepted.
     for (most, takes, answer, calls, failures, taken) in [
         (2, 64, Ok(()), 3, 0, 5),
         (9, 64, Ok(()), 1, 0, 5),
@@ -55,7 +55,7 @@ fn a_read_is_one_call() {
     assert_eq!((buf, input.failures(), input.get_ref().left), ([1, 2, 3, 0], 1, &[4][..]));
 }
 
-/// A stream that fails at each call for one cause.
+/// A stream whose calls all fail with one cause.
 struct Broken(ErrorKind);
 
 impl Read for Broken {
@@ -74,7 +74,7 @@ impl Write for Broken {
     }
 }
 
-/// Returns the cause of the last failure, and how many there were.
+/// Returns the cause of the last failure, and the number of failures.
 fn failures<S>(stream: &Counted<S>) -> (Option<ErrorKind>, u64) {
     (stream.last_failure(), stream.failures())
 }
@@ -119,7 +119,7 @@ fn a_picture_is_read_written_and_sent_on_its_way_by_a_flush() {
     assert_eq!((&out.get_ref().get_ref().taken[..], failures(&out)), (&bytes[..10], (None, 0)));
 }
 
-/// A writer that fails at each write, counts its flushes, and fails at each after the second.
+/// A writer whose writes fail, and whose flushes fail after the second one.
 #[derive(Default)]
 struct Flushing(usize);
 
@@ -145,7 +145,7 @@ fn a_flush_is_one_call_and_its_failure_is_counted() {
     assert_eq!(failures(&out), (Some(ErrorKind::BrokenPipe), 3));
 }
 
-/// Fails where a frame is not written whole by writers of these habits, or one is flushed or called for nothing.
+/// Tests that writers of this behavior receive the whole frame, without a flush or an empty write.
 fn check_slow<T: Pixel>(frame: &Frame<T>, bytes: &[u8], most: &[usize]) {
     for &most in most {
         let mut out = Counted::new(writer(most));
@@ -191,7 +191,7 @@ fn a_long_text_goes_out_whole() {
         assert_eq!(out.write_all(&text), Ok(()));
         assert_eq!((out.get_ref().taken == text, out.get_ref().writes), (true, text.len().div_ceil(most)));
     }
-    // A slice takes it where it has room.
+    // A slice accepts the frame if it is long enough.
     for (room, answer) in [(1_200_007, Ok(())), (1_200_008, Ok(())), (1_200_006, Err(WriteFault::TookNothing))] {
         let mut target = vec![0; room];
         let mut out = Counted::new(target.as_mut_slice());
@@ -201,13 +201,13 @@ fn a_long_text_goes_out_whole() {
     }
 }
 
-/// Writes a picture, in a stream after its line or alone.
+/// Writes a picture, with or without the line in front of it.
 fn write<W: Write>(out: &mut Counted<W>, picture: &Frame<u8>, has_line: bool) -> Result<(), Y4mError> {
     if has_line { y4m::write_frame(out, picture) } else { write_frame(out, picture).map_err(Y4mError::Planar) }
 }
 
-/// Returns a picture of 1101 by 1001 pixels of luma, and twice 551 by 501 of chroma, with its bytes after its line or
-/// alone.
+/// Returns a picture of 1101 by 1001 luma pixels and two chroma planes of 551 by 501 pixels, and its bytes, with or without the
+/// line in front of it.
 fn large_picture(has_line: bool) -> (Frame<u8>, Vec<u8>) {
     let mut picture = video_frame::<u8>(1101, 1001, Yuv420, 8, 3).expect("a frame");
     let mut bytes = if has_line { b"FRAME\n".to_vec() } else { Vec::new() };
@@ -240,7 +240,7 @@ fn a_large_picture_goes_out_whole() {
     }
 }
 
-/// A reader of sevens, 1000 a call, of which one call is interrupted.
+/// A reader that returns the byte 7, 1000 times for each call, and is interrupted once.
 struct InterruptedOnce {
     calls: usize,
     at: usize,

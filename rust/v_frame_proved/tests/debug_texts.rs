@@ -1,4 +1,4 @@
-//! Debug texts of markers, and of streams: these show what is known of them, and neither readers, writers nor pixels.
+//! Debug texts of markers and of streams. Those of streams show their properties, but not the reader, the writer or the pixels.
 
 #![cfg(feature = "std")]
 
@@ -8,7 +8,7 @@ use v_frame_proved::rgb::{ChromaU, ChromaV, Luma};
 use v_frame_proved::streams::{Container, NoObserver, Picture, Place, Silent, Sink, Source, StreamError};
 use v_frame_proved::y4m::{Decoder, Encoder};
 
-/// A reader that has no debug text.
+/// A reader without a debug text.
 struct Quiet<'a>(&'a [u8]);
 
 impl Read for Quiet<'_> {
@@ -17,10 +17,10 @@ impl Read for Quiet<'_> {
     }
 }
 
-/// A writer that is none: a text asks nothing of it.
+/// A writer that does not implement `Write`. A debug text does not require it.
 struct Anything;
 
-/// Shows both streams, whatever they read and write.
+/// Returns the debug texts of both streams, whatever their readers and writers are.
 fn shown<R, W>(source: &Source<R>, sink: &Sink<W>) -> String {
     format!("{source:?} {sink:?}")
 }

@@ -1,5 +1,5 @@
-//! What errors say: each row of the table is what a value of its variant prints. tools/check-error-texts sees that no variant
-//! lacks a row.
+//! Tests the error messages: each row of the table is the message of a value of its variant. tools/check-error-texts tests that
+//! every variant has a row.
 
 #![cfg(feature = "std")]
 
@@ -16,7 +16,7 @@ use v_frame_proved::y4m::{HeaderError, Text, Y4mError};
 
 const TABLE: &str = include_str!("data/error_texts.txt");
 
-/// Compares the rows of an error with the values, one a row, in the order of the table.
+/// Compares the rows of an error with the values, in the order of the table.
 fn compare<E: Debug + Display>(name: &str, values: &[E]) {
     let rows: Vec<&str> = TABLE.lines().filter(|row| row.starts_with(&format!("{name}::"))).collect();
     let shown = values.iter().map(|value| {

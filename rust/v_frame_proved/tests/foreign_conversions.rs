@@ -1,5 +1,5 @@
-//! What converts, composes or counts pictures in buffers of somebody else's: rows with something between them, which stays, for
-//! both types of samples.
+//! Conversions, blends and statistics of pictures in plain buffers. The entries between the rows must not change. Each test
+//! runs with both pixel types.
 
 #![cfg(feature = "std")]
 
@@ -23,7 +23,8 @@ fn picture<T>(buffer: &[T], width: usize, height: usize) -> RowsRef<'_, T> {
     RowsRef::new(buffer, width, height, width + 2).unwrap()
 }
 
-/// Returns the rows of a size that a call writes over rows of sevens, given the buffer and its stride. Between them all stays.
+/// Returns the rows that a call writes over rows of sevens, given the buffer and its stride. Tests that the entries between
+/// them do not change.
 fn written<T: Pixel>(width: usize, height: usize, call: impl FnOnce(&mut [T], usize)) -> Vec<Vec<T>> {
     let [before, between] = [7, 8].map(T::from);
     let row = vec![before; width];
@@ -33,7 +34,7 @@ fn written<T: Pixel>(width: usize, height: usize, call: impl FnOnce(&mut [T], us
     buffer.chunks(width + 2).map(|piece| piece[..width].to_vec()).collect()
 }
 
-/// Two pictures of three by two pixels.
+/// Returns two pictures of three by two pixels.
 fn two<T: Pixel>() -> [Vec<T>; 2] {
     [0, 100].map(|base| {
         let row = |from: u8| [from, from + 1, from + 2].map(T::from);
@@ -41,12 +42,12 @@ fn two<T: Pixel>() -> [Vec<T>; 2] {
     })
 }
 
-/// Rows of whole numbers as rows of pixels.
+/// Converts rows of integers to rows of pixels.
 fn shown<T: Pixel>(rows: &[&[u8]]) -> Vec<Vec<T>> {
     rows.iter().map(|row| row.iter().map(|&it| T::from(it)).collect()).collect()
 }
 
-/// Makes a test of a function for each type of samples.
+/// Defines a test of a function for each pixel type.
 macro_rules! of_both {
     ($($name:ident)*) => {$(
         #[test]
@@ -152,7 +153,7 @@ fn depths() {
     assert_eq!(written::<u16>(2, 1, |it, s| conversions::convert_depth(bytes, it, 2, 1, s, 8, 10)), [[0, 1020]]);
 }
 
-/// Makes two pixels planes, and colors again. A step of a plane is at most two of a color.
+/// Converts two colors to planes and back. A step of a plane changes a channel by at most two.
 fn comes_back<O: ColorOrder>(bytes: usize) {
     let pixels: Vec<u8> = [[200, 60, 60, 255], [50, 180, 70, 255]].iter().flat_map(|it| it[..bytes].to_vec()).collect();
     let source = RowsRef::new(&pixels, 2 * bytes, 1, 2 * bytes).unwrap();

@@ -1,9 +1,9 @@
-//! Pictures in buffers of somebody else's, with a stride: compared, changed and encoded beside plain loops. What lies between the
-//! rows stays.
+//! Pictures in plain buffers with a stride: compared, changed and encoded, and tested against plain loops. The entries between
+//! the rows must not change.
 use v_frame_proved::ops::{pad_buffer, rows};
 use v_frame_proved::plane::{PlaneGeometry, RowsRef, copy_rows, decode_rows, encode_rows};
 
-/// Numbers that look drawn: those of a linear congruential generator.
+/// Pseudorandom numbers of a linear congruential generator.
 struct Draws(u64);
 
 impl Draws {

@@ -1,4 +1,4 @@
-//! Frames: how they are built or refused, compared, cloned and shown.
+//! Frames: building, rejections, comparison, clones and debug texts.
 
 mod support;
 
@@ -9,7 +9,7 @@ use v_frame_proved::frame::{Frame, FrameBuilder, FrameError};
 use v_frame_proved::pixel::Pixel;
 use v_frame_proved::plane::{Plane, PlaneGeometry};
 
-/// A width, a height, a format, a depth, and luma paddings left, right, top and bottom.
+/// A width, a height, a format, a bit depth, and the luma padding on the left, right, top and bottom.
 type Shape = ((usize, usize), ChromaSubsampling, u8, [usize; 4]);
 
 fn builder(((width, height), format, depth, [left, right, top, bottom]): Shape) -> FrameBuilder {
@@ -60,7 +60,7 @@ fn chroma_planes_have_the_size_of_the_format() {
     check_sizes::<u16>(((3840, 2160), Yuv420, 10, [0; 4]), Some((1920, 1080)));
 }
 
-/// Writes the first pixel of the plane of this index.
+/// Writes the first pixel of the plane with this index.
 fn mark<T: Pixel>(frame: &mut Frame<T>, index: usize, value: T) {
     let plane = frame.plane_mut(index).expect("a plane");
     *plane.pixel_mut(0, 0).expect("a pixel") = value;
@@ -79,10 +79,10 @@ fn a_mark_in_each_plane() {
     assert!(frame.plane(3).is_none() && frame.plane_mut(3).is_none());
 }
 
-/// A width and a height, paddings left, right, top and bottom, and ratios.
+/// A width and a height, the padding on the left, right, top and bottom, and the subsampling ratios.
 type Laid = ([usize; 6], [u8; 2]);
 
-/// Fails where a plane is not there, is laid out otherwise, or is not zero everywhere.
+/// Tests that a plane is present, has this geometry, and is zero everywhere.
 #[track_caller]
 fn must_lie<T: Pixel>(plane: Option<&Plane<T>>, ([width, height, left, right, top, bottom], [x, y]): Laid) {
     let plane = plane.expect("a plane");
@@ -124,7 +124,7 @@ fn full_chroma_is_built_with_each_padding() {
     }
 }
 
-/// Fails where a frame is refused for another reason, or built where there is one.
+/// Tests that each frame is rejected for the given reason, or built if there is none.
 #[track_caller]
 fn check_refusals<T: Pixel>(cases: &[(Shape, Option<FrameError>)]) {
     for (shape, reason) in cases {
@@ -183,7 +183,7 @@ fn refusals_say_why() {
     assert_eq!(v_frame_proved::AllocError.to_string(), "memory allocation failed");
 }
 
-/// Returns a frame with a picture in each plane, in a border of nines.
+/// Returns a frame with a picture in each plane and nines in the padding.
 fn painted<T: Pixel>(format: ChromaSubsampling, depth: u8) -> Frame<T> {
     let mut frame = built::<T>(((16, 6), format, depth, [4, 0, 2, 0]));
     for index in 0..3 {
@@ -195,7 +195,7 @@ fn painted<T: Pixel>(format: ChromaSubsampling, depth: u8) -> Frame<T> {
     frame
 }
 
-/// Fails where the clone of a frame is another one, or what is written into it is seen in the frame.
+/// Tests that the clone of a frame is equal to it, and that writing to the clone does not change the frame.
 fn check_clone<T: Pixel>(format: ChromaSubsampling, depth: u8) {
     let frame = painted::<T>(format, depth);
     let mut copy = frame.clone();
@@ -293,7 +293,7 @@ fn formats_have_the_numbers_of_the_original() {
     assert_eq!([Yuv420, Yuv422, Yuv444, Monochrome, Yuv411].map(|format| format as u8), [0, 1, 2, 3, 4]);
 }
 
-/// What a program over the original may have added to its frames.
+/// A trait that a program for the original crate may have added to its frames.
 trait FrameExt {
     fn width(&self) -> &'static str;
 }

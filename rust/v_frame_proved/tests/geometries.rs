@@ -1,9 +1,9 @@
-//! Geometries of planes and ratios of formats: what follows from them, and what is refused.
+//! Geometries of planes and subsampling ratios of formats: derived values and rejections.
 
 use v_frame_proved::chroma::ChromaSubsampling::{self, Monochrome, Yuv411, Yuv420, Yuv422, Yuv444};
 use v_frame_proved::plane::{PlaneGeometry, SubsamplingError};
 
-/// Returns the size, the stride, the paddings left, right, top and bottom, and the ratios.
+/// Returns the size, the stride, the padding on the left, right, top and bottom, and the ratios.
 fn numbers_of(geometry: &PlaneGeometry) -> [usize; 9] {
     [
         geometry.width(),
@@ -30,16 +30,16 @@ fn sizes_follow_from_the_paddings() {
     assert_eq!(numbers_of(&unpadded), [1920, 1080, 1920, 0, 0, 0, 0, 1, 1]);
 }
 
-/// The stride of a geometry, and the size of its buffer where there can be one.
+/// The stride of a geometry, and the size of its buffer if it can have one.
 type Sizes = (usize, Option<usize>);
 
 fn sizes(geometry: Option<PlaneGeometry>) -> Option<Sizes> {
     geometry.map(|geometry| (geometry.stride(), geometry.checked_alloc_size()))
 }
 
-/// A width, a height, paddings left, right, top and bottom, and ratios, with the sizes of their geometry.
+/// A width, a height, the padding on the left, right, top and bottom, and the ratios, with the sizes of the geometry.
 ///
-/// There is none where a size or a ratio is zero, or no `usize` holds the stride.
+/// There is no geometry if a size or a ratio is zero, or if the stride overflows `usize`.
 const PADDED: [([usize; 6], [u8; 2], Option<Sizes>); 13] = [
     ([0, 1080, 40, 30, 20, 10], [1, 1], None),
     ([1920, 0, 40, 30, 20, 10], [1, 1], None),
@@ -56,7 +56,7 @@ const PADDED: [([usize; 6], [u8; 2], Option<Sizes>); 13] = [
     ([1, usize::MAX, 0, 0, usize::MAX, usize::MAX], [1, 1], Some((1, None))),
 ];
 
-/// The same of planes without a border. The product of the third is two to the power of 64, and no `usize` holds it.
+/// The same values for planes without padding. The size of the third one is 2^64, which overflows `usize`.
 const UNPADDED: [([usize; 2], [u8; 2], Option<Sizes>); 9] = [
     ([4611686018427387903, 1], [1, 1], Some((4611686018427387903, Some(4611686018427387903)))),
     ([4611686018427387904, 1], [1, 1], Some((4611686018427387904, None))),
@@ -81,32 +81,32 @@ fn strides_and_buffers_are_as_large_as_numbers_go() {
     }
 }
 
-/// The width and the height, the paddings left, right, top and bottom, and the ratios.
+/// The width and the height, the padding on the left, right, top and bottom, and the ratios.
 type Shape = ([usize; 2], [usize; 4], [u8; 2]);
 
 fn geometry(([width, height], [left, right, top, bottom], [x, y]): Shape) -> PlaneGeometry {
     PlaneGeometry::new(width, height, left, right, top, bottom, x, y).expect("a geometry")
 }
 
-/// A padded plane whose columns, rows and paddings all have a half.
+/// A padded plane. Its width, its height and its padding are all even.
 const EVEN: Shape = ([1920, 1080], [40, 30, 20, 10], [1, 1]);
 
-/// A plane with an odd padding below.
+/// A plane with an odd number of padding rows at the bottom.
 const ODD_BELOW: Shape = ([1920, 1080], [10, 10, 40, 15], [1, 1]);
 
-/// The chroma of the padded plane in 4:2:0.
+/// The chroma geometry of the padded plane in 4:2:0.
 const HALVED: Shape = ([960, 540], [20, 15, 10, 5], [2, 2]);
 
-/// The same with a right padding that has a quarter.
+/// A geometry of that size whose padding on the right is a multiple of 4.
 const QUARTERED: Shape = ([960, 540], [20, 16, 10, 5], [2, 2]);
 
-/// The chroma of the padded plane in 4:2:2.
+/// The chroma geometry of the padded plane in 4:2:2.
 const HALF_AS_WIDE: Shape = ([960, 1080], [20, 15, 20, 10], [2, 1]);
 
-/// A plane whose ratios are set already.
+/// A plane whose ratios are not 1.
 const SMALL: Shape = ([8, 8], [0; 4], [2, 2]);
 
-/// Planes, a format, and the chroma of it.
+/// Planes, a format, and the chroma geometry in that format.
 const DIVIDED: [(Shape, ChromaSubsampling, Shape); 7] = [
     (EVEN, Yuv444, EVEN),
     (EVEN, Yuv422, HALF_AS_WIDE),
@@ -142,7 +142,7 @@ fn what_is_around_a_region_is_its_border() {
     assert_eq!(plane.region_with_border(-4, -2, 27, 15), Some(plane.whole_buffer()));
 }
 
-/// Planes, and whether each has a chroma in 4:2:0, in 4:2:2 and in 4:1:1.
+/// Planes, and whether each has a chroma geometry in 4:2:0, in 4:2:2 and in 4:1:1.
 const HALVES: [(Shape, [bool; 3]); 7] = [
     (EVEN, [true, true, false]),
     (([1921, 1080], [0; 4], [1, 1]), [false; 3]),
@@ -167,7 +167,7 @@ fn odd_sizes_and_paddings_have_no_half() {
 /// A width and a height.
 type Size = (usize, usize);
 
-/// Formats, sizes of luma, and sizes of chroma.
+/// Formats, luma sizes and chroma sizes.
 const SIZES: [(ChromaSubsampling, Size, Option<Size>); 19] = [
     (Yuv420, (1920, 1080), Some((960, 540))),
     (Yuv422, (1920, 1080), Some((960, 1080))),

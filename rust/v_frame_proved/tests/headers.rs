@@ -1,4 +1,4 @@
-//! Headers of streams, of each color and way of interlacing: what has a line comes back from it.
+//! Headers of streams with every color and interlacing: a header that is written can be read again.
 
 #![cfg(feature = "std")]
 
@@ -18,7 +18,7 @@ const INTERLACINGS: [Option<Interlacing>; 6] = [
     Some(Interlacing::Unknown),
 ];
 
-/// Whether streams have such a color: 8-bit 4:2:0 says where its chroma lies, and 4:1:1 has 8 bits.
+/// Returns whether there is a color with these properties: 8-bit 4:2:0 has a siting, and 4:1:1 has 8 bits.
 fn is_color(format: Format, bit_depth: u8, siting: Option<ChromaSiting>) -> bool {
     match bit_depth {
         8 => siting.is_some() == (format == Format::Yuv420),
@@ -43,7 +43,7 @@ fn each_color_comes_back_from_its_line() {
     }
 }
 
-/// As the `y4m` format has it, a stream that states no color, or 420 alone, has its chroma as JPEG does.
+/// In the YUV4MPEG2 format, a stream without a color, or with the color 420, has chroma as in JPEG.
 #[test]
 fn chroma_without_a_stated_place_lies_in_the_center() {
     for color in [Color::Unstated, Color::Yuv420, Color::Yuv420Jpeg] {

@@ -1,4 +1,4 @@
-//! Iterators over the rows, the pixels and the bytes of planes, drawn from both ends and past the last item.
+//! Iterators over the rows, the pixels and the bytes of planes, called at both ends and after the last item.
 
 mod support;
 
@@ -75,7 +75,7 @@ fn iterators_are_cloned_and_show_what_is_left() {
     assert_eq!(format!("{:?}", bytes.clone()), "[1, 2, 3, 4, 5]");
 }
 
-/// Draws items as a list does, from which they are taken at both ends.
+/// Takes items from both ends of a list.
 fn draw_from_list<I: Debug>(items: impl IntoIterator<Item = I>, sides: &str) -> String {
     let mut items: VecDeque<I> = items.into_iter().collect();
     let one = |side| {
@@ -85,7 +85,7 @@ fn draw_from_list<I: Debug>(items: impl IntoIterator<Item = I>, sides: &str) -> 
     sides.chars().map(one).collect::<Vec<_>>().join(" ")
 }
 
-/// Fails where rows, pixels or bytes of a plane of three columns are drawn otherwise than from a list.
+/// Tests that the iterators over the rows, the pixels and the bytes of a plane of three columns return the items of a list.
 fn check_draws<T: Pixel>() {
     let mut plane: Plane<T> = blank([3, 190, 2, 0, 0, 0]);
     paint(&mut plane, 0);

@@ -1,4 +1,4 @@
-//! Planes and rows whose buffer is kept elsewhere.
+//! Planes and rows over borrowed buffers.
 
 mod support;
 

@@ -1,4 +1,4 @@
-//! Similarity, mean squared errors, ratios in decibels and differences, to the last digit.
+//! SSIM, mean squared errors, PSNR and differences, to the last digit.
 
 #![cfg(feature = "std")]
 
@@ -17,8 +17,7 @@ use v_frame_proved::plane::Plane;
 
 const CASES: &str = include_str!("data/measures.txt");
 
-/// Returns the pixels of a picture: the first one, one that is near to it, whose low three bits are changed, and a far
-/// one.
+/// Returns the pixels of a picture: the first one, a similar one whose low three bits are changed, or a different one.
 fn picture<T: Pixel>(name: &str, columns: usize, rows: usize, depth: u8) -> Vec<T> {
     let factors: Vec<usize> = values(CASES, "factors");
     let factor = if name == "Far" { factors[1] } else { factors[0] };
@@ -33,7 +32,7 @@ fn plane<T: Pixel>(name: &str, columns: usize, rows: usize, depth: u8) -> Plane<
     plane_of([columns, rows, 0, 0, 0, 0], &picture(name, columns, rows, depth))
 }
 
-/// Returns whether two numbers of decibels are equal, but for the last digits of a logarithm.
+/// Returns whether two numbers of decibels are equal, up to the last digits of a logarithm.
 fn are_near(a: f64, b: f64) -> bool {
     (a - b).abs() < 1e-9
 }
@@ -71,7 +70,7 @@ fn planes_below_8_by_8_have_no_similarity() {
     }
 }
 
-/// Small values have a faster way, which is taken where both pictures have no others.
+/// A faster computation is used if both pictures have only small values.
 #[test]
 fn pictures_of_small_and_of_large_values_are_exchanged() {
     let (small, large) = (plane::<u16>("First", 72, 12, 8), plane::<u16>("Far", 72, 12, 16));
@@ -81,7 +80,7 @@ fn pictures_of_small_and_of_large_values_are_exchanged() {
     assert!(found > 0.0 && found < 1.0, "{found}");
 }
 
-/// One large value in the first row is a large value of the picture, as one in the last row is.
+/// A single large value is enough to make the values of a picture large, in the first row as well as in the last.
 #[test]
 fn one_large_value_stands_in_any_row() {
     let with = |name: &str, large: u16, is_turned: bool| {
@@ -101,7 +100,7 @@ fn blank<T: Pixel>(size: usize, format: ChromaSubsampling, depth: u8) -> Frame<T
     FrameBuilder::new(size, size, format, depth).build().expect("a frame")
 }
 
-/// Returns a frame of 16 by 16 pixels in 4:2:0 of these pictures.
+/// Returns a 4:2:0 frame of 16 by 16 pixels with these pictures.
 fn frame(names: [&str; 3]) -> Frame<u8> {
     let mut frame = blank(16, Yuv420, 8);
     for (index, name) in names.into_iter().enumerate() {
@@ -146,13 +145,13 @@ fn means_of_a_stream() {
     quality.add(1.0, 8);
     quality.add(100.0, 8);
     assert_eq!(quality.mean_of_errors(), Some(50.5));
-    // The mean of 48.1308036... and 28.1308036..., where the ratio of the mean error is 31.0978898...
+    // The mean of 48.1308036... and 28.1308036... The PSNR of the mean error is 31.0978898...
     assert!(are_near(quality.mean_of_psnr().expect("frames"), 38.130_803_608_679_11));
     assert!(are_near(psnr(50.5, 8), 31.097_889_827_492_49));
     assert_eq!(peak_ratio(2.0, 8), 32512.5);
 }
 
-/// Of an error of 7 the ratio is 20 log10(2^depth - 1) - 10 log10(7), by Python.
+/// The PSNR of an error of 7 is 20 log10(2^depth - 1) - 10 log10(7), computed in Python.
 #[test]
 fn means_of_streams_of_each_depth() {
     let cases = [

@@ -1,4 +1,5 @@
-//! PSNR, SSIM and squared errors by `quality`, which refuses what has no number. Expected values are ffmpeg's, or exact fractions.
+//! PSNR, SSIM and squared errors of the module `quality`, which rejects meaningless measures. Expected values are those of
+//! ffmpeg, or exact fractions.
 #![cfg(feature = "std")]
 
 use v_frame_proved::chroma::ChromaSubsampling::{Monochrome, Yuv420, Yuv444};
@@ -101,12 +102,12 @@ fn sizes_that_differ_or_hold_no_window_are_refused() {
         assert_eq!(ssim(&other, &other, 8), Err(MeasureError::TooSmall));
         assert_eq!(psnr(&other, &other, 8), Ok(f64::INFINITY));
     }
-    // The depth is the first reason.
+    // The bit depth is tested first.
     let other = plane(7, 8, |_, _| 1u8);
     assert_eq!(ssim(&whole, &other, 9), Err(MeasureError::UnsupportedBitDepth { found: 9 }));
 }
 
-/// Returns a blank frame of `u16`.
+/// Returns a blank frame of `u16` pixels.
 fn frame(width: usize, format: v_frame_proved::chroma::ChromaSubsampling, depth: u8) -> Frame<u16> {
     FrameBuilder::new(width, 16, format, depth).build().unwrap()
 }
@@ -127,7 +128,7 @@ fn frames_that_differ_in_kind_are_refused() {
     }
     let mut third = frame(16, Yuv420, 10);
     third.y_plane[15][3] = 512;
-    // One error of 2^18 among 384 pixels: 10 log10(1023^2 * 384 / 2^18).
+    // One squared error of 2^18 among 384 pixels: 10 log10(1023^2 * 384 / 2^18).
     assert!((frame_psnr(&first, &third).unwrap().all - 31.855425698401895).abs() < 1e-9);
     assert_eq!(frame_psnr(&first, &third).unwrap().u, Some(f64::INFINITY));
     let errors = frame_mean_squared_error(&first, &third).unwrap();
@@ -173,7 +174,8 @@ fn depths_that_differ_are_the_first_reason() {
     assert_eq!(frame_mean_squared_error(&first, &second), Err(error));
 }
 
-/// Sees that the one greatest difference of two planes is found, with its place, wherever it is and whichever plane has more.
+/// Tests that the greatest difference of two planes is found with its position, wherever it is, and whichever plane has the
+/// larger value.
 fn the_greatest_difference_is_found<T: v_frame_proved::pixel::Pixel>(base: T, more: T, most: T, difference: u16) {
     for width in (1..20).chain(31..35).chain(63..67) {
         for at in 0..2 * width {

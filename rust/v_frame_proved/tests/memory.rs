@@ -1,4 +1,4 @@
-//! Streams take memory when they begin, and none for a frame that is read, changed, written or compared.
+//! Streams allocate memory when they begin, but not for each frame that is read, changed, written or compared.
 #![cfg(feature = "std")]
 
 use std::alloc::{GlobalAlloc, Layout, System};
@@ -10,17 +10,17 @@ use v_frame_proved::streams::{compare_streams, copy_stream};
 use v_frame_proved::y4m::StreamHeader;
 
 thread_local! {
-    /// How often this thread asked for memory.
+    /// The number of allocations of this thread.
     static REQUESTS: Cell<u64> = const { Cell::new(0) };
 }
 
-/// The system's memory, whose requests are counted.
+/// The allocator of the system, which counts its calls.
 struct Counting;
 
 #[global_allocator]
 static COUNTING: Counting = Counting;
 
-// SAFETY: each call is passed on as it came.
+// SAFETY: each call is forwarded unchanged.
 unsafe impl GlobalAlloc for Counting {
     unsafe fn alloc(&self, layout: Layout) -> *mut u8 {
         let _ = REQUESTS.try_with(|requests| requests.set(requests.get() + 1));
@@ -32,14 +32,14 @@ unsafe impl GlobalAlloc for Counting {
     }
 }
 
-/// Returns how many requests for memory a call makes.
+/// Returns the number of allocations that a call makes.
 fn requests(call: impl FnOnce()) -> u64 {
     let before = REQUESTS.get();
     call();
     REQUESTS.get() - before
 }
 
-/// Returns headerless raw video of so many frames in a format.
+/// Returns raw video of `frames` frames in this format.
 fn source(format: &str, frames: u64) -> Source<io::Take<io::Repeat>> {
     let format = VideoFormat::named(format).expect("a format");
     let layout = match format {
@@ -54,7 +54,7 @@ fn source(format: &str, frames: u64) -> Source<io::Take<io::Repeat>> {
 const FORMATS: [&str; 12] =
     ["420", "422", "444p12", "mono", "mono16", "nv12", "nv21", "nv16", "nv24", "p010le", "p012le", "p016le"];
 
-/// Returns how many requests a copy of so many frames makes.
+/// Returns the number of allocations of a copy of `frames` frames.
 fn requests_of_copy(format: &str, container: Container, options: &CopyOptions, frames: u64) -> u64 {
     let mut source = source(format, frames);
     let mut sink = Sink::new(container, io::sink());
@@ -80,7 +80,7 @@ fn copies_take_no_memory_for_a_frame() {
     }
 }
 
-/// Returns how many requests a comparison of so many frames of two formats makes.
+/// Returns the number of allocations of a comparison of `frames` frames in two formats.
 fn requests_of_comparison(first: &str, second: &str, frames: u64) -> u64 {
     let all = CompareOptions { skip_first: 0, skip_second: 0, count: None, max_pixels: MAX_PIXELS };
     let (mut first, mut second) = (source(first, frames), source(second, frames));

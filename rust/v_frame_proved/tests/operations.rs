@@ -1,4 +1,4 @@
-//! Planes that are filled, mapped, combined, padded, halved, copied and compared, by what is left in whole buffers.
+//! Planes that are filled, mapped, combined, padded, halved, copied and compared. The tests compare whole buffers.
 
 mod support;
 
@@ -10,20 +10,20 @@ use v_frame_proved::ops::{
 use v_frame_proved::pixel::Pixel;
 use v_frame_proved::plane::{Plane, PlaneRef};
 
-/// Three pixels by two with a border on all sides.
+/// Three by two pixels with padding on all sides.
 const BORDERED: Layout = [3, 2, 1, 2, 1, 1];
 
-/// The sums of absolute differences and of squared errors, and the place of the first difference.
+/// The sum of absolute differences, the sum of squared errors, and the position of the first difference.
 type Differences = (u128, u128, Option<(usize, usize)>);
 
-/// Returns a plane that shows these pixels in a border of one value.
+/// Returns a plane with these pixels and one value in the padding.
 fn showing(layout: Layout, pixels: &[u8]) -> Plane<u8> {
     let mut plane = bordered(layout);
     plane.copy_from_slice(pixels).expect("so many pixels");
     plane
 }
 
-/// Fails where a plane shows other pixels than these, row after row, or its border is another one.
+/// Tests that a plane has these pixels, row by row, and that its padding is unchanged.
 #[track_caller]
 fn must_show_pixels(plane: &Plane<u8>, pixels: &[u8]) {
     must_show(plane, |x, y| pixels[y * plane.width() + x]);
@@ -33,7 +33,7 @@ fn differences<T: Pixel>(a: &PlaneRef<'_, T>, b: &PlaneRef<'_, T>) -> Difference
     (sum_of_absolute_differences(a, b), sum_of_squared_errors(a, b), first_difference(a, b))
 }
 
-/// Fails where two planes have other differences, or the first one has one from itself.
+/// Tests the differences of two planes, and that the first one does not differ from itself.
 #[track_caller]
 fn must_differ<T: Pixel>(a: &Plane<T>, b: &Plane<T>, wanted: Differences) {
     let (a, b) = (a.as_plane_ref(), b.as_plane_ref());
@@ -101,7 +101,8 @@ fn a_picture_is_placed_on_a_ground() {
     must_show_pixels(&plane, &[9, 9, 9, 9, 7, 8]);
 }
 
-/// Makes each pixel the mean of itself and its eight neighbours, rounded down. The border shows those past the edge.
+/// Replaces each pixel by the mean of itself and its eight neighbors, rounded down. The padding provides the neighbors outside
+/// the picture.
 fn soften(plane: &mut Plane<u8>, target: &mut Plane<u8>) {
     pad(plane);
     let whole = PlaneRef::new(plane.geometry().whole_buffer(), plane.data()).expect("the buffer");
@@ -124,14 +125,14 @@ fn a_plane_is_softened_by_what_its_border_shows() {
     assert_eq!(target.data(), wanted);
 }
 
-/// Returns a plane of the picture of this number, wider than a block of packed instructions, in a border of one value.
+/// Returns a plane with the picture of this number, wider than a block of vector instructions, and one value in the padding.
 fn picture<T: Pixel>(width: usize, height: usize, number: usize) -> Plane<T> {
     let mut plane = bordered([width, height, 35, 2, 1, 2]);
     paint(&mut plane, number);
     plane
 }
 
-/// Returns the differences of the pictures 0 and 1, by a plain loop.
+/// Returns the differences of the pictures 0 and 1, computed with a plain loop.
 fn plain_differences<T: Pixel>(width: usize, height: usize) -> Differences {
     let (mut absolute, mut squared, mut first) = (0, 0, None);
     for y in 0..height {
@@ -159,8 +160,7 @@ fn planes_of_each_width_are_as_far_apart_as_a_plain_loop_finds() {
     check_differences::<u16>();
 }
 
-/// Fails where planes of zeros and of the largest value have other differences, or the last pixel, where it alone
-/// differs, is not found.
+/// Tests the differences of planes of zeros and of the largest value, and that a difference of only the last pixel is found.
 fn check_extremes<T: Pixel>(largest: T, wanted: Differences) {
     let (mut a, mut b) = (picture::<T>(40, 3, 0), picture::<T>(40, 3, 0));
     fill(&mut a, T::from(0));

@@ -1,8 +1,8 @@
-//! Cases of the original crate and what it answers to them, kept for the program that `rt` builds: answered here by the
-//! crate that cargo builds.
+//! Cases of the original crate and its results, recorded for the program that `rt` builds. This test compares them with the
+//! results of the crate that cargo builds.
 //!
-//! What reads a line, and what makes a call and prints its answer, are modules of a program over `v_frame` 0.7.0,
-//! unchanged. What stands here puts them together as that program does, for one more format: the one that 0.7.0 lacks.
+//! The modules that parse a line, make a call and print its result are those of a program over `v_frame` 0.7.0, unchanged. This
+//! file combines them as that program does, with one more format, which 0.7.0 lacks.
 
 extern crate v_frame_proved as v_frame;
 
@@ -30,7 +30,7 @@ fn build<T: Pixel>(spec: &Spec) -> Result<Frame<T>, FrameError> {
     spec.build(spec.format.unwrap_or(ChromaSubsampling::Yuv411))
 }
 
-/// Builds and edits the frame that a line and the edits below it describe.
+/// Builds the frame that a line describes, and makes the edits in the lines below it.
 fn frame<T: Pixel>(lines: &[&str]) -> Read<Frame<T>> {
     let mut head = Tokens::new(lines[0]);
     head.keyword("frame")?;
@@ -43,14 +43,14 @@ fn frame<T: Pixel>(lines: &[&str]) -> Read<Frame<T>> {
     Ok(frame)
 }
 
-/// Prints whether two frames are equal, where there are two.
+/// Prints whether two frames are equal, if there are two.
 fn print_equality<T: Pixel>(frames: &[Frame<T>], out: &mut String) {
     if let [one, other] = frames {
         out.push_str(if one == other { "equal true\n" } else { "equal false\n" });
     }
 }
 
-/// Answers builds.
+/// Prints the results of builds.
 fn answer_builds(lines: &[&str], out: &mut String) -> Read<()> {
     for line in lines {
         let mut words = Tokens::new(line);
@@ -65,7 +65,7 @@ fn answer_builds(lines: &[&str], out: &mut String) -> Read<()> {
     Ok(())
 }
 
-/// Answers calls on each of the frames.
+/// Prints the results of calls on each of the frames.
 fn answer_calls<T: Pixel>(described: &[&str], calls: &[&str], out: &mut String) -> Read<()> {
     let each = described.chunk_by(|_, next| !next.starts_with("frame "));
     let mut frames = each.map(frame::<T>).collect::<Read<Vec<_>>>()?;
@@ -80,7 +80,7 @@ fn answer_calls<T: Pixel>(described: &[&str], calls: &[&str], out: &mut String) 
     Ok(())
 }
 
-/// Returns what is answered to the lines of a case, without its end.
+/// Returns the results for the lines of a case, without its last line.
 fn answer(case: &str) -> Read<String> {
     let lines: Vec<&str> = case.lines().collect();
     let place = lines.iter().position(|line| line.starts_with("calls ")).ok_or("no line names the number of calls")?;

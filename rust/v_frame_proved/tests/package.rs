@@ -1,6 +1,7 @@
-//! What the package has beside its code: examples of the README that can be pasted as they stand, and the license.
+//! The contents of the package in addition to its code: the examples of the README, which can be pasted unchanged, and the
+//! license.
 
-/// Returns the blocks of Rust in the README.
+/// Returns the code blocks of Rust in the README.
 fn examples() -> Vec<&'static str> {
     let parts = include_str!("../README.md").split("```rust\n").skip(1);
     parts.map(|part| part.split_once("\n```\n").expect("an end of the block").0).collect()
@@ -13,7 +14,7 @@ fn examples_of_the_readme_are_whole_programs() {
     for example in examples {
         assert!(example.starts_with("use "), "{example}");
         assert!(example.contains("\nfn main() -> Result<(), "), "{example}");
-        // rustdoc would hide such lines, and other readers show them.
+        // rustdoc hides such lines, but other viewers show them.
         assert!(example.lines().all(|line| line != "#" && !line.starts_with("# ")), "{example}");
     }
 }

@@ -1,5 +1,5 @@
-//! PNG files. Python's `struct`, `zlib.crc32` and `zlib.adler32` made the same ones, and its `zlib` read the compressed
-//! ones back.
+//! PNG files. The expected files were made with Python's `struct`, `zlib.crc32` and `zlib.adler32`. Python's `zlib`
+//! decompressed the compressed ones.
 
 #![cfg(feature = "std")]
 
@@ -16,7 +16,7 @@ use v_frame_proved::rgb::{ColorRange, Rgb, RgbMatrix, Standard, rows::yuv444_to_
 
 const BT2020_PQ: ColorSpace = ColorSpace::Cicp { primaries: 9, transfer: 16, full_range: true };
 
-/// Returns bytes that look like noise.
+/// Returns pseudorandom bytes.
 fn noise(count: usize) -> Vec<u8> {
     (0..count).map(|i| entry(i, 7919, 256)).collect()
 }
@@ -36,7 +36,7 @@ fn checksums_of_bytes_and_of_parts() {
     assert_eq!(digest.value(), 0x23C0_DA92);
 }
 
-/// Returns the file of these bytes, which is the same row by row and all at once.
+/// Returns the file of these bytes. Writing row by row and all at once give the same file.
 fn file_of(picture: Header, compression: Compression, bytes: &[u8]) -> Vec<u8> {
     let size = picture.row_size();
     let mut png = PngWriter::with_compression(Vec::new(), picture, compression).expect("begun");
@@ -49,14 +49,14 @@ fn file_of(picture: Header, compression: Compression, bytes: &[u8]) -> Vec<u8> {
     file
 }
 
-/// The file of 2 by 2 gray pixels: 7 and 0, and below them 255 and 128.
+/// The file of 2 by 2 gray pixels: 7 and 0 in the first row, and 255 and 128 in the second.
 const FOUR: [u8; 84] = [
     137, 80, 78, 71, 13, 10, 26, 10, 0, 0, 0, 13, 73, 72, 68, 82, 0, 0, 0, 2, 0, 0, 0, 2, 8, 0, 0, 0, 0, 87, 221, 82,
     248, 0, 0, 0, 27, 73, 68, 65, 84, 120, 1, 0, 3, 0, 252, 255, 0, 7, 0, 0, 3, 0, 252, 255, 0, 255, 128, 1, 0, 0, 255,
     255, 2, 167, 1, 135, 125, 218, 21, 217, 0, 0, 0, 0, 73, 69, 78, 68, 174, 66, 96, 130,
 ];
 
-/// The compressed file of 20 by 2 black pixels: in each line a zero, and twenty more that are repeated.
+/// The compressed file of 20 by 2 black pixels. Each row is a zero followed by a match of twenty bytes.
 const BLACK: [u8; 86] = [
     137, 80, 78, 71, 13, 10, 26, 10, 0, 0, 0, 13, 73, 72, 68, 82, 0, 0, 0, 20, 0, 0, 0, 2, 8, 0, 0, 0, 0, 125, 109,
     163, 87, 0, 0, 0, 29, 73, 68, 65, 84, 120, 1, 98, 192, 6, 0, 0, 0, 0, 255, 255, 98, 192, 6, 0, 0, 0, 0, 255, 255,
@@ -71,8 +71,8 @@ fn small_files_are_these_bytes() {
     assert_eq!(file_of(black, Compression::Fixed, &[0; 40]), BLACK);
 }
 
-/// The compressed file of 3 by 2 gray pixels. What is left of the second row is as small over the row above as beside
-/// each pixel, and each less than the row itself: its filter is the first of the two.
+/// The compressed file of 3 by 2 gray pixels. For the second row, the filters Up and Sub give equal sums, which are less than
+/// the sum of the row itself. The first of the two filters is used.
 const TIE: [u8; 88] = [
     137, 80, 78, 71, 13, 10, 26, 10, 0, 0, 0, 13, 73, 72, 68, 82, 0, 0, 0, 3, 0, 0, 0, 2, 8, 0, 0, 0, 0, 184, 31, 57,
     198, 0, 0, 0, 31, 73, 68, 65, 84, 120, 1, 98, 228, 226, 226, 6, 0, 0, 0, 255, 255, 98, 100, 96, 148, 5, 0, 0, 0,
@@ -85,7 +85,7 @@ fn of_filters_that_leave_as_little_the_first_is_taken() {
     assert_eq!(file_of(gray, Compression::Fixed, &[10, 20, 31, 0, 1, 30]), TIE);
 }
 
-/// The checksum of white rows is as large within one piece as it goes before it is reduced.
+/// With white rows, the checksum reaches the largest values between two reductions.
 #[test]
 fn checksums_of_white_rows() {
     let picture = header(5652, 3, Samples::Gray8, ColorSpace::Unnamed);
@@ -93,7 +93,7 @@ fn checksums_of_white_rows() {
     assert_eq!(file[file.len() - 20..][..4], [213, 13, 253, 148]);
 }
 
-/// Pictures of noise, and the length of each file with the sum of its bytes, each times its number from 1 on.
+/// Pictures of noise, with the length of each file and the sum of its bytes, each multiplied by its position from 1 on.
 const FILES: [(u32, u32, Samples, ColorSpace, Compression, usize, u64); 17] = {
     use ColorSpace::{Srgb, Unnamed};
     use Compression::{Fixed, Stored};
@@ -166,7 +166,7 @@ fn luma_without_chroma_is_written_as_gray() {
     assert_eq!(file, file_of(picture, Compression::Stored, &bytes));
 }
 
-/// Fails where an error is not the one of a writer with this habit, or does not keep its cause.
+/// Tests that an error is that of a writer with this behavior, and keeps its cause.
 #[track_caller]
 fn must_be_of(error: &PngError, then: Then) {
     match (error, then) {
@@ -176,8 +176,8 @@ fn must_be_of(error: &PngError, then: Then) {
     }
 }
 
-/// Fails where writing rows to a writer with a habit ends otherwise than with its error, after all bytes that it took,
-/// and closed.
+/// Tests that writing rows to a writer with this behavior fails with its error, after all bytes that it accepts, and that the
+/// picture is closed.
 fn stops(out: Writer, then: Then, compression: Compression, rows: &RowsRef<'_, u8>, taken: &[u8]) {
     let picture = header(5, 3, Samples::Rgb8, ColorSpace::Srgb);
     let mut png = PngWriter::with_compression(out, picture, compression).expect("begun");

@@ -1,12 +1,11 @@
-//! Pixels: values and bytes of both types.
+//! Values and bytes of both pixel types.
 
 mod support;
 
 use support::planes::{plane_of, sample};
 use v_frame_proved::pixel::Pixel;
 
-/// Fails where a value has another pixel, or one where it is too large, or the pixel is in another order with the next
-/// one.
+/// Tests that a value has its pixel, or none if it is too large, and that the pixel is less than the next one.
 fn check_value<T: Pixel>(value: u16, is_pixel: bool) {
     let found = T::try_from(value).ok();
     assert_eq!(found.is_some(), is_pixel, "{value}");

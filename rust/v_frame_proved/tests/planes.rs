@@ -1,4 +1,4 @@
-//! Planes: what they show, what is written into them, and what their texts and clones are.
+//! Planes: reading, writing, debug texts and clones.
 
 mod support;
 
@@ -47,7 +47,7 @@ fn rows_and_pixels_are_written_in_place() {
     assert_eq!([plane.pixel(1, 1), plane.pixel(100, 100)], [Some(0), None]);
 }
 
-/// Fails where a new plane of this width, two rows high, has not its rows and its stride, or is not zero everywhere.
+/// Tests that a new plane of this width, two rows high, has its rows and its stride, and is zero everywhere.
 fn check_new<T: Pixel>(width: usize) {
     let plane = blank::<T>([width, 2, 1, 0, 1, 1]);
     let found = [plane.width(), plane.height(), plane.geometry().stride(), plane.rows().len()];
@@ -76,7 +76,7 @@ fn buffers_begin_at_addresses_that_64_divides() {
     }
 }
 
-/// The border and what it surrounds, as a plane whose border holds 200 everywhere.
+/// Returns a plane with these pixels in which all padding is 200.
 fn in_200(pixels: &[u8; 6]) -> Plane<u8> {
     let mut plane = bordered(BORDERED);
     plane.data_mut().fill(200);
@@ -84,7 +84,8 @@ fn in_200(pixels: &[u8; 6]) -> Plane<u8> {
     plane
 }
 
-/// Does the same to a plane in a numbered border and to one in a border of one value, each of which it has to leave.
+/// Changes a plane with numbered padding and a plane with one value in its padding. Compares the pixels, and tests that the
+/// padding is unchanged.
 #[track_caller]
 fn in_both_borders(change: impl Fn(&mut Plane<u8>), wanted: &[u8; 6]) {
     let pixels = [1, 2, 3, 4, 5, 6];
@@ -144,7 +145,7 @@ fn held_words_are_written_in_another_order() {
     must_be(&plane, layout, &[11, 2, 20, 4]);
 }
 
-/// Counts the pixels of a plane in a numbered border up from 0.
+/// Writes the numbers from 0 on to the pixels of a plane with numbered padding.
 fn check_counted(layout: Layout) {
     let size = layout[0] * layout[1];
     let mut plane = showing(layout, &vec![99_u8; size]);
@@ -216,7 +217,7 @@ fn a_clone_is_a_plane_of_its_own() {
     assert_eq!(bordered.clone(), bordered);
 }
 
-/// The debug text of a geometry without a border.
+/// The debug text of a geometry without padding.
 fn shown_geometry(width: usize, height: usize) -> String {
     format!(
         "geometry: PlaneGeometry {{ width: {width}, height: {height}, stride: {width}, pad_left: 0, pad_right: 0, \

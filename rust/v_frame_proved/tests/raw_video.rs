@@ -1,4 +1,4 @@
-//! Frames of any size as planar bytes: how large they are, and how they are read and written.
+//! Planar bytes of frames of any size: their number, and reading and writing them.
 
 #![cfg(feature = "std")]
 
@@ -20,13 +20,13 @@ fn size_of_plane<T>(plane: &Plane<T>) -> Size {
     (plane.width(), plane.height())
 }
 
-/// Returns the paddings of a plane left, right, top and bottom.
+/// Returns the padding of a plane on the left, right, top and bottom.
 fn border_of<T>(plane: &Plane<T>) -> [usize; 4] {
     let geometry = plane.geometry();
     [geometry.pad_left(), geometry.pad_right(), geometry.pad_top(), geometry.pad_bottom()]
 }
 
-/// Sizes of luma, formats, and sizes of chroma.
+/// Luma sizes, formats and chroma sizes.
 const SIZES: [(Size, ChromaSubsampling, Option<Size>); 14] = [
     ((1, 1), Yuv420, Some((1, 1))),
     ((1, 1), Yuv411, Some((1, 1))),
@@ -59,8 +59,8 @@ fn chroma_covers_luma_of_any_size() {
     }
 }
 
-/// Fails where chroma of a frame of this width and padding doesn't begin at each column and row that the ratio divides,
-/// or the border isn't the next one that it divides.
+/// Tests that the padding of a frame is rounded up to a multiple of the subsampling ratio, and that chroma is aligned with
+/// luma.
 fn check_padding<T: Pixel>(format: ChromaSubsampling, width: usize, padding: usize, depth: u8) {
     let frame = video_frame::<T>(width, 3, format, depth, padding).expect("a frame");
     let (columns, rows) = format.subsample_ratio().map_or((1, 1), |(x, y)| (x.get().into(), y.get().into()));
@@ -98,9 +98,9 @@ fn a_frame_that_divides_is_as_built() {
 
 #[test]
 fn a_frame_has_the_bytes_of_its_planes() {
-    // 35 pixels of luma and twice 12 of chroma, of two bytes each; the border is not counted.
+    // 35 luma pixels and twice 12 chroma pixels, of two bytes each. The padding is not counted.
     assert_eq!(planar_len(&video_frame::<u16>(7, 5, Yuv420, 10, 3).expect("a frame")), 118);
-    // Luma alone, of one byte each.
+    // Only luma, one byte for each pixel.
     assert_eq!(planar_len(&video_frame::<u8>(7, 5, Monochrome, 8, 0).expect("a frame")), 35);
 }
 
@@ -124,7 +124,7 @@ fn frames_are_refused_for_the_first_reason() {
     }
 }
 
-/// Returns two pixels by two in 4:2:0, which show these bytes: four of luma, and one of each chroma.
+/// Returns a 4:2:0 frame of two by two pixels with these bytes: four of luma, and one of each chroma plane.
 fn six_bytes([a, b, c, d, u, v]: [u8; 6]) -> Frame<u8> {
     let mut frame = FrameBuilder::new(2, 2, Yuv420, 8).build::<u8>().expect("a frame");
     for (index, bytes) in [&[a, b, c, d][..], &[u], &[v]].into_iter().enumerate() {
@@ -133,12 +133,12 @@ fn six_bytes([a, b, c, d, u, v]: [u8; 6]) -> Frame<u8> {
     frame
 }
 
-/// Returns such a frame without U, whose V is three pixels by two instead.
+/// Returns such a frame without the plane U. Its plane V has three by two pixels.
 fn without_u(bytes: [u8; 6], v: [u8; 6]) -> Frame<u8> {
     Frame { u_plane: None, v_plane: Some(plane_of([3, 2, 0, 0, 0, 0], &v)), ..six_bytes(bytes) }
 }
 
-/// Returns a frame without chroma, three pixels by two in a numbered border.
+/// Returns a frame without chroma, of three by two pixels with numbered padding.
 fn bordered(pixels: &[u8; 6]) -> Frame<u8> {
     let mut frame = FrameBuilder::new(3, 2, Monochrome, 8).build::<u8>().expect("a frame");
     frame.y_plane = plane_of(BORDERED, &in_numbered_border(BORDERED, pixels));
@@ -160,8 +160,8 @@ fn a_frame_a_rest_and_the_end() {
 fn frames_are_read_in_pieces_whole_or_not_at_all() {
     let bytes = [1, 2, 3, 4, 5, 6, 7];
     let truncated = |found| Err(PlanarError::Truncated { expected: 6, found });
-    // How many bytes there are, how many a call gives, how many calls do: the answer, the failures, and the bytes that
-    // are left.
+    // The number of bytes, the number of bytes that a call returns, the number of calls that succeed, the result, the number of
+    // failures, and the number of bytes that are left.
     for (length, most, calls, answer, failures, left) in [
         (6, 1, 6, Ok(true), 0, 0),
         (7, 4, 2, Ok(true), 0, 1),
@@ -211,8 +211,7 @@ fn planes_that_a_user_replaced_are_read_and_written() {
     assert_eq!(out.into_inner(), [1, 2, 3, 4, 9, 8, 7, 6, 5, 4]);
 }
 
-/// Fails where a frame is not written as these bytes, or a slow writer that has a habit after so many calls answers or
-/// takes anything else.
+/// Tests the bytes that are written for a frame, and the result of a slow writer that has another behavior after some calls.
 fn check_writes<T: Pixel>(frame: &Frame<T>, bytes: &[u8], calls: usize, then: Then, answer: Result<(), PlanarError>) {
     let mut all = Counted::new(Vec::new());
     assert_eq!(write_frame(&mut all, frame), Ok(()));

@@ -1,4 +1,4 @@
-//! Lists of calls that are replayed on frames: what each answers, and what is left.
+//! Lists of calls that are replayed on frames: the answer of each call, and the effect on the frame.
 
 #![cfg(feature = "std")]
 
@@ -13,10 +13,10 @@ use v_frame_proved::pixel::Pixel;
 use v_frame_proved::planar::video_frame;
 use v_frame_proved::replay::{Answer, Drawn, PixelDraw, ReplayStopped, RowDraw, Side, VisibleCall, replay};
 
-/// Three pixels by two without a border.
+/// Three by two pixels without padding.
 const BARE: Layout = [3, 2, 0, 0, 0, 0];
 
-/// Returns the sides of a text: `f` for the front and `b` for the back.
+/// Returns the sides in a text: `f` is the front, and `b` is the back.
 fn sides(text: &str) -> impl Iterator<Item = Side> {
     text.chars().map(|side| if side == 'f' { Side::Front } else { Side::Back })
 }
@@ -65,25 +65,25 @@ fn bytes<T>(plane: usize, draws: &str) -> VisibleCall<T> {
     VisibleCall::ByteData { plane, draws: sides(draws).collect::<Vec<_>>().into() }
 }
 
-/// Draws rows from these sides, each of which is overwritten.
+/// Takes rows from these sides and overwrites each of them.
 fn rows_mut<T: Copy>(plane: usize, draws: &str, writes: &[&[Option<T>]]) -> VisibleCall<T> {
     let draws = sides(draws).zip(writes).map(|(side, writes)| RowDraw { side, writes: writes.to_vec().into() });
     VisibleCall::RowsMut { plane, draws: draws.collect::<Vec<_>>().into() }
 }
 
-/// Draws pixels from these sides, each of which is replaced.
+/// Takes pixels from these sides and replaces each of them.
 fn pixels_mut<T: Copy>(plane: usize, draws: &str, values: &[Option<T>]) -> VisibleCall<T> {
     let draws = sides(draws).zip(values).map(|(side, &value)| PixelDraw { side, value });
     VisibleCall::PixelsMut { plane, draws: draws.collect::<Vec<_>>().into() }
 }
 
-/// Returns what an iteration gave, such as `2 rows: [4, 5, 6]/1 [1, 2, 3]/0 -/0`.
+/// Returns the text of an iteration, such as `2 rows: [4, 5, 6]/1 [1, 2, 3]/0 -/0`.
 fn walked<I: Debug>(kind: &str, total: usize, items: &[Drawn<I>]) -> String {
     let items: Vec<_> = items.iter().map(|item| drawn(&item.item, item.left)).collect();
     format!("{total} {kind}: {}", items.join(" "))
 }
 
-/// Returns what an answer says.
+/// Returns the text of an answer.
 fn text_of<T: Debug>(answer: &Answer<T>) -> String {
     match answer {
         Answer::RowsWalked { total, drawn } => walked("rows", *total, drawn),
@@ -93,10 +93,10 @@ fn text_of<T: Debug>(answer: &Answer<T>) -> String {
     }
 }
 
-/// Calls, and what each answers.
+/// Calls, and the expected answer of each.
 type Steps<'a, T> = &'a [(VisibleCall<T>, &'a str)];
 
-/// Replays these calls on a frame. Fails where one of them answers otherwise.
+/// Replays these calls on a frame and compares the answers.
 #[track_caller]
 fn check_answers<T: Pixel>(frame: &mut Frame<T>, steps: Steps<'_, T>) {
     let calls: Vec<_> = steps.iter().map(|(call, _)| call.clone()).collect();
@@ -107,7 +107,7 @@ fn check_answers<T: Pixel>(frame: &mut Frame<T>, steps: Steps<'_, T>) {
     }
 }
 
-/// Returns a frame without chroma that has this plane's size and border and holds these entries.
+/// Returns a frame without chroma with this size and padding, whose buffer has these entries.
 fn frame_of<T: Pixel>(layout: Layout, buffer: &[T]) -> Frame<T> {
     let depth = 8 * size_of::<T>() as u8;
     let mut frame = FrameBuilder::new(layout[0], layout[1], Monochrome, depth).build().expect("a frame");
@@ -115,7 +115,7 @@ fn frame_of<T: Pixel>(layout: Layout, buffer: &[T]) -> Frame<T> {
     frame
 }
 
-/// Replays calls on a plane. Fails where one of them answers otherwise, or another buffer is left.
+/// Replays calls on a plane, and compares the answers and the buffer.
 #[track_caller]
 fn check<T: Pixel>(layout: Layout, before: &[T], steps: Steps<'_, T>, after: &[T]) {
     let mut frame = frame_of(layout, before);
@@ -282,7 +282,7 @@ fn calls_name_planes_that_a_user_replaced() {
     assert_eq!(frame.y_plane.data(), [1, 2, 3, 4]);
 }
 
-/// Returns three planes of words which show these pixels in borders of 43981.
+/// Returns three planes of 16-bit pixels with these pixels and padding of 43981.
 fn framed([width, height, left, right, top, bottom]: Layout, shown: [[u16; 6]; 3]) -> Frame<u16> {
     let builder = FrameBuilder::new(width, height, Yuv444, 16).luma_padding_left(left).luma_padding_right(right);
     let builder = builder.luma_padding_top(top).luma_padding_bottom(bottom);
@@ -331,7 +331,8 @@ fn nine_calls_are_answered_alike_in_different_borders() {
     }
 }
 
-/// Two hundred calls on luma of five by three: each even one replaces a pixel, and the one after it reads another.
+/// Makes two hundred calls on luma of five by three pixels: each call with an even number replaces a pixel, and the others read
+/// one.
 fn check_many<T: Pixel>(depth: u8, padding: usize) {
     let mut frame = video_frame::<T>(5, 3, Yuv420, depth, padding).expect("a frame");
     let mut shown = [T::from(0); 15];

@@ -1,4 +1,4 @@
-//! Pictures in any other size: means of areas, and nearest pixels.
+//! Resizing to any size: area averages and nearest neighbors.
 
 mod support;
 
@@ -12,7 +12,7 @@ use v_frame_proved::resize::{resize_area, resize_nearest};
 
 const CASES: &str = include_str!("data/sizes.txt");
 
-/// Returns seven pixels by five.
+/// Returns a picture of seven by five pixels.
 fn source<T: Pixel>() -> Vec<T> {
     pixels(&values_of::<u16>(CASES, "source", if size_of::<T>() == 1 { "u8" } else { "u16" }))
 }
@@ -64,12 +64,12 @@ fn sizes_whose_sums_cannot_be_counted_are_refused() {
     assert!(!can_resize(1, 4_294_967_296, 1, 4_294_967_296));
 }
 
-/// Returns how much of source pixel `i` is in target pixel `x`, in parts of which a pixel of the source has `target`.
+/// Returns how much of source pixel `i` is covered by target pixel `x`. A whole source pixel counts as `target`.
 fn shared(i: usize, source: usize, x: usize, target: usize) -> usize {
     ((x + 1) * source).min((i + 1) * target).saturating_sub((x * source).max(i * target))
 }
 
-/// Returns the mean of what a target pixel covers, whose halves are rounded up: each source pixel counts by its share.
+/// Returns the mean of the area that a target pixel covers, with halves rounded up. Each source pixel is weighted by its share.
 fn mean<T: Pixel>(pixels: &[T], source: [usize; 2], target: [usize; 2], place: [usize; 2]) -> T {
     let share = |axis: usize, i: usize| shared(i, source[axis], place[axis], target[axis]);
     let area = source[0] * source[1];
@@ -79,7 +79,7 @@ fn mean<T: Pixel>(pixels: &[T], source: [usize; 2], target: [usize; 2], place: [
     T::try_from(((2 * sum + area) / (2 * area)) as u16).expect("a value of the type")
 }
 
-/// Returns the pixel whose area holds the middle of pixel `x`. A middle between two belongs to the second.
+/// Returns the source pixel that contains the center of target pixel `x`. A center between two pixels belongs to the second.
 fn middle(source: usize, target: usize, x: usize) -> usize {
     (2 * x + 1) * source / (2 * target)
 }

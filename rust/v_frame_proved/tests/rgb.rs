@@ -1,4 +1,4 @@
-//! Luma and chroma as colors, and colors as luma and chroma: five pixels by three, in planes and in rows.
+//! Conversions between YUV and RGB of five by three pixels, in planes and in rows.
 
 mod support;
 
@@ -23,7 +23,7 @@ fn standard(case: &mut Case<'_>) -> (Standard, ColorRange) {
     (standard, if case.word() == "Full" { ColorRange::Full } else { ColorRange::Limited })
 }
 
-/// Returns the samples of luma, of Cb and of Cr.
+/// Returns the samples of luma, Cb and Cr.
 fn samples() -> [Vec<u8>; 3] {
     ["y", "u", "v"].map(|name| values(CASES, name))
 }
@@ -58,7 +58,7 @@ fn samples_become_colors() {
     }
 }
 
-/// Fails where a channel of a picture is another one, in rows or in a plane.
+/// Tests one channel of a converted picture, in rows and in a plane.
 fn encodes_channel<O: ColorOrder, C: Channel>(source: &RowsRef<'_, u8>, matrix: YuvMatrix, wanted: &[u8]) {
     let mut buffer = [BORDER; 25];
     rows::rgb_to_channel::<O, C>(source, &mut buffer, 5, 3, 5, matrix);
@@ -135,7 +135,7 @@ fn wide_pictures_become_colors_and_samples() {
     }
 }
 
-/// Returns the sum of the colors of a wide picture of a bit depth.
+/// Returns the sum of the colors of a wide picture with this bit depth.
 fn exact<T: Pixel>(matrix: &ExactMatrix, size: u16) -> u64 {
     let factors: Vec<usize> = values(CASES, "factors");
     let samples = [0, 1, 2].map(|index| numbered::<T>([67, 9, 0, 0, 0, 0], factors[index], size));
@@ -168,8 +168,8 @@ fn colors_come_back_nearly() {
     }
 }
 
-/// Samples of 16 bits and the color of each, by Python's fractions: one channel lies just on a half or hardly above one,
-/// and in the last of each seven colors below one, so that coefficients which differ in a few of their digits show.
+/// 16-bit samples and their colors, computed with Python's fractions. One channel is exactly at a half, or barely above or
+/// below one, so that a difference in the last digits of a coefficient changes the result.
 const NEAR_HALVES: [(Standard, ColorRange, [u16; 3], [u8; 3]); 42] = {
     use ColorRange::{Full, Limited};
     use Standard::{Bt601, Bt709, Bt2020};
@@ -227,7 +227,8 @@ fn colors_next_to_a_half_are_exact() {
     }
 }
 
-/// Halves are rounded up: the sums of products are by hand 8192 over a multiple of 16384, or 32768 over one of 65536.
+/// Halves are rounded up. The sums of products were computed by hand: they are 8192 above a multiple of 16384, or 32768 above a
+/// multiple of 65536.
 #[test]
 fn halves_are_rounded_up() {
     use ColorRange::{Full, Limited};

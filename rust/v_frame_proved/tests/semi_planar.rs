@@ -1,4 +1,4 @@
-//! Semi-planar layouts: frames written and read, chroma by turns, and samples in the top bits of words.
+//! Semi-planar layouts: frames written and read, interleaved chroma, and samples in the top bits of words.
 
 #![cfg(feature = "std")]
 
@@ -29,7 +29,7 @@ const FORMATS: [SemiPlanarFormat; 7] = [
     SemiPlanarFormat::P016,
 ];
 
-/// Returns a picture in a border whose samples are numbered through Y, U and V; entries of the border are others.
+/// Returns a picture whose samples are numbered through Y, U and V. The entries of its padding have other values.
 fn picture<T: Pixel>(width: usize, height: usize, format: SemiPlanarFormat) -> Frame<T> {
     let factors: Vec<usize> = values(CASES, "factors");
     let depth = format.bit_depth();
@@ -47,7 +47,7 @@ fn picture<T: Pixel>(width: usize, height: usize, format: SemiPlanarFormat) -> F
     frame
 }
 
-/// Sets all that a plane shows to zero. The border stays.
+/// Sets all visible pixels of a plane to zero. The padding is unchanged.
 fn blank<T: Pixel>(plane: &mut Plane<T>) {
     plane.rows_mut().for_each(|row| row.fill(T::from(0)));
 }
@@ -61,7 +61,7 @@ fn bytes_of<T: Pixel>(frame: &Frame<T>, format: SemiPlanarFormat) -> Vec<u8> {
     bytes
 }
 
-/// Writes a picture, and reads the bytes into one that was blank: then whole buffers are equal.
+/// Writes a picture, reads the bytes into a blank one, and compares whole buffers.
 fn goes_through<T: Pixel>(case: Case<'_>, (width, height): (usize, usize), format: SemiPlanarFormat) {
     let frame = picture::<T>(width, height, format);
     let bytes = bytes_of(&frame, format);
@@ -96,7 +96,7 @@ fn bytes_of_a_small_picture() {
     }
 }
 
-/// A write that fails after each number of bytes in turn: just the bytes before were taken.
+/// Makes writes fail after each possible number of bytes, and tests that exactly these bytes were written.
 fn writes_fail_in_turn<T: Pixel>(format: SemiPlanarFormat) {
     let frame = picture::<T>(5, 3, format);
     let bytes = bytes_of(&frame, format);
@@ -109,7 +109,7 @@ fn writes_fail_in_turn<T: Pixel>(format: SemiPlanarFormat) {
     }
 }
 
-/// A read that fails after each number of bytes in turn, or ends there: the frame is as it was.
+/// Makes reads fail or end after each possible number of bytes, and tests that the frame is unchanged.
 fn reads_fail_in_turn<T: Pixel>(format: SemiPlanarFormat) {
     let mut frame = picture::<T>(5, 3, format);
     let bytes = bytes_of(&frame, format);
@@ -136,7 +136,7 @@ fn failures_after_each_byte() {
     reads_fail_in_turn::<u16>(SemiPlanarFormat::P010);
 }
 
-/// Fails where a frame that is none for a layout is not refused, or anything is written or read.
+/// Tests that a frame which does not fit a layout is rejected, and that nothing is written or read.
 fn is_refused<T: Pixel>(frame: &mut Frame<T>, format: SemiPlanarFormat, wanted: SemiPlanarError) {
     let before = frame.clone();
     assert_eq!(check_layout(frame, format), Err(wanted));
@@ -164,7 +164,7 @@ fn frames_that_are_none_for_a_layout() {
     is_refused(&mut words, SemiPlanarFormat::Nv12, SemiPlanarError::BitDepth);
 }
 
-/// Puts lent rows together and takes them apart again; what stands beside them stays.
+/// Interleaves rows in plain buffers and splits them again. The entries outside the rows must not change.
 fn lent_rows<T: Pixel>() {
     let first: Vec<T> = pixels(&[1, 2, 3, 90, 4, 5, 6]);
     let second: Vec<T> = pixels(&[11, 12, 13, 91, 92, 14, 15, 16, 93]);
@@ -186,7 +186,7 @@ fn lent_rows_of_both_types() {
     lent_rows::<u16>();
 }
 
-/// Puts rows of each length together and takes them apart again: those of eight pairs and of whole blocks have ways of their own.
+/// Interleaves rows of each length and splits them again. Rows of eight pairs and of whole blocks have their own code.
 fn rows_of_each_length<T: Pixel>() {
     for pairs in (1..70).chain([127, 128, 129, 255, 256, 1000]) {
         let [first, second] = [7, 11].map(|factor| (0..pairs).map(|i| entry(i, factor, 0)).collect::<Vec<T>>());
@@ -216,7 +216,7 @@ fn planes_are_interleaved_within_their_borders() {
         225, 226, 227,
     ];
     assert_eq!(both.data(), wanted);
-    // Taken apart the other way round, each plane has the pixels of the other.
+    // If the result is split with U and V exchanged, each plane has the pixels of the other.
     deinterleave(&both.as_plane_ref(), &mut u, &mut v);
     assert_eq!(u.data(), [1, 2, 3, 4, 5, 6, 7, 101, 102, 103, 11, 12, 13, 104, 105, 106, 17, 18]);
     assert_eq!(v.data(), [8, 9, 10, 14, 15, 16]);
@@ -232,7 +232,7 @@ fn samples_move_to_the_top_bits_and_back() {
     assert_eq!(plane.data(), [201, 0, 4, 4092, 205, 2048, 4, 12, 209, 210, 211, 212]);
 }
 
-/// The bits below those of a sample are no part of it, in files that have some there, too.
+/// Bits below those of a sample are ignored, even if a file has some there.
 #[test]
 fn bits_below_those_of_samples_are_left_out() {
     for (format, unused) in [(SemiPlanarFormat::P010, 6), (SemiPlanarFormat::P012, 4), (SemiPlanarFormat::P016, 0)] {
@@ -251,7 +251,7 @@ fn bits_below_those_of_samples_are_left_out() {
     assert_eq!(words, [16_368, 240, 9, 16, 0, 9, 9]);
 }
 
-/// A frame of more than 2^28 bytes, for which room is there: what is refused by its size alone would show here.
+/// Reads a frame of more than 2^28 bytes. A limit on the size of frames would be detected here.
 #[test]
 fn a_large_frame_is_read() {
     let format = SemiPlanarFormat::Nv12;

@@ -1,5 +1,5 @@
-//! Bytes go out by one rule, whoever sends them: more writes follow one that took a part, and the first that fails, an
-//! interrupted one too, or takes nothing is the last.
+//! All functions that write bytes follow one rule: after a partial write they continue, and they stop at the first write that
+//! fails or accepts no bytes. An interrupted write counts as failed.
 
 #![cfg(feature = "std")]
 
@@ -15,7 +15,7 @@ use v_frame_proved::png::{ColorSpace, Header, PngError, Samples, write_png};
 
 const BYTES: [u8; 12] = [1, 2, 3, 4, 5, 6, 7, 8, 9, 10, 11, 12];
 
-/// Sends something. Where a write took nothing, the kind is `WriteZero`.
+/// Writes something. If a write accepts no bytes, the kind of the error is `WriteZero`.
 type Send = fn(&mut Writer) -> Result<(), ErrorKind>;
 
 fn bytes(out: &mut Writer) -> Result<(), ErrorKind> {

@@ -1,4 +1,4 @@
-//! Lists whose room does not count.
+//! Sequences of any length.
 
 mod support;
 

@@ -1,4 +1,4 @@
-//! Statistics of planes in a border whose entries all have values of their own.
+//! Statistics of planes. All entries of their padding have different values.
 
 mod support;
 
@@ -21,7 +21,7 @@ fn planes<T: Pixel>(layout: Layout) -> [Plane<T>; 2] {
     planes_of_size(layout, 0)
 }
 
-/// Returns two planes of a layout whose entries are cut to so many values.
+/// Returns two planes of a layout whose entries have at most `size` different values.
 fn planes_of_size<T: Pixel>(layout: Layout, size: u16) -> [Plane<T>; 2] {
     let factors: Vec<usize> = values(CASES, "factors");
     [factors[0], factors[1]].map(|factor| numbered(layout, factor, size))
@@ -44,7 +44,7 @@ fn pixels_are_counted() {
     cases(CASES, "counts").into_iter().for_each(|case| for_type!(counts, case));
 }
 
-/// Returns the sum of all counts, each times the square of its value plus one, and the sum of them.
+/// Returns the sum of all counts, each multiplied by the square of its value plus one, and the sum of all counts.
 fn weighed(table: &[u64]) -> [u64; 2] {
     [(1..).zip(table).map(|(place, count)| place * place * count).sum(), table.iter().sum()]
 }
@@ -115,7 +115,7 @@ fn sums_of_blocks_are_exact() {
     cases(CASES, "block").into_iter().for_each(|case| for_type!(sums_of_block, case));
 }
 
-/// Returns the first place of an area with the least sum of absolute differences, row after row, and that sum.
+/// Returns the first position in an area, row by row, with the smallest sum of absolute differences, and that sum.
 fn best_match<T: Pixel>(
     plane: &PlaneRef<'_, T>,
     block: &PlaneRef<'_, T>,
@@ -147,7 +147,8 @@ fn the_first_of_equal_matches_is_found() {
     assert_eq!(best_match(&flat.as_plane_ref(), &block.as_plane_ref(), [1, 1, 3, 2]), [1, 1, 8]);
 }
 
-/// Sums of rows of which no value is small, just one, or the last, against a loop of numbers that cannot overflow.
+/// Compares the sums of a row with a loop that cannot overflow. The pixels at the positions `high` have the value `value`, and
+/// the others are below 1000.
 fn sums_of_row_with(width: usize, value: u16, high: &[usize]) {
     let [a, b] = [7919, 7907].map(|factor| {
         let mut plane = numbered::<u16>([width, 1, 0, 0, 0, 0], factor, 1000);

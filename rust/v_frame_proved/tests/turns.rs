@@ -1,4 +1,4 @@
-//! Planes, rows and frames that are turned, by what is left in whole buffers.
+//! Flips and rotations of planes, rows and frames. The tests compare whole buffers.
 
 mod support;
 
@@ -19,7 +19,7 @@ const CASES: &str = include_str!("data/turns.txt");
 const TURNS: [Turn; 6] =
     [Turn::FlipVertical, Turn::FlipHorizontal, Turn::Rotate180, Turn::Transpose, Turn::Rotate90, Turn::Rotate270];
 
-/// Returns the turn that a case names.
+/// Returns the operation that a case names.
 fn turn(case: &mut Case<'_>) -> Turn {
     let name = case.word();
     TURNS.into_iter().find(|turn| format!("{turn:?}") == name).expect("a turn")
@@ -81,8 +81,8 @@ fn a_quarter_there_and_one_back_is_the_plane() {
     assert_eq!(again.data(), [9, 10, 11, 12, 13, 17, 18, 19, 20, 21, 25, 26, 27, 28, 29]);
 }
 
-/// Three pixels by two, four entries apart and numbered from 1 on, are turned into rows of a buffer that is numbered
-/// from 200 on: the last row may end at its width, and what is after a row stays.
+/// Rotates or flips three by two pixels, which have a stride of four entries and are numbered from 1 on, into a buffer that is
+/// numbered from 200 on. The last row may end at its width, and the entries after each row must not change.
 fn turns_rows<T: Pixel>(mut case: Case<'_>) {
     let turn = turn(&mut case);
     let (width, height, stride) = (case.number(), case.number(), case.number());
@@ -130,7 +130,7 @@ fn rows_are_turned_in_place() {
     cases(CASES, "rows_in_place").into_iter().for_each(turns_rows_in_place::<u16>);
 }
 
-/// Returns a frame whose planes are numbered, luma from 0 and chroma from 100 and 200 on.
+/// Returns a frame whose planes are numbered: luma from 0 on, and chroma from 100 and 200 on.
 fn frame<T: Pixel>((width, height): (usize, usize), format: ChromaSubsampling, depth: u8) -> Frame<T> {
     let mut frame = FrameBuilder::new(width, height, format, depth).build::<T>().expect("a frame");
     for (index, first) in [0, 100, 200].into_iter().enumerate() {
@@ -141,7 +141,7 @@ fn frame<T: Pixel>((width, height): (usize, usize), format: ChromaSubsampling, d
     frame
 }
 
-/// Returns what the planes of a frame hold, one after the other.
+/// Returns the entries of the planes of a frame, one plane after the other.
 fn entries<T: Pixel>(frame: &Frame<T>) -> Vec<u16> {
     (0..3).filter_map(|index| frame.plane(index)).flat_map(|plane| values(plane.data())).collect()
 }
@@ -172,10 +172,10 @@ fn frames_are_turned_in_place() {
     assert_eq!(entries(&frame), [0, 1, 2, 3, 4, 5, 6, 7, 100, 101, 102, 103, 200, 201, 202, 203]);
 }
 
-/// A format, a size and a depth.
+/// A format, a size and a bit depth.
 type Kind = (ChromaSubsampling, (usize, usize), u8);
 
-/// Two frames, a turn of the first into the second, and its answer.
+/// Two frames, an operation from the first to the second, and its result.
 const ANSWERS: [(Kind, Kind, Turn, Result<(), TurnError>); 15] = [
     ((Yuv422, (4, 4), 10), (Yuv422, (4, 4), 10), Turn::Rotate90, Err(TurnError::UnevenSubsampling)),
     ((Yuv411, (4, 4), 10), (Yuv444, (4, 4), 10), Turn::Transpose, Err(TurnError::UnevenSubsampling)),
@@ -186,7 +186,7 @@ const ANSWERS: [(Kind, Kind, Turn, Result<(), TurnError>); 15] = [
     ((Yuv444, (4, 4), 10), (Yuv444, (4, 4), 12), Turn::Rotate90, Err(TurnError::DifferentBitDepth)),
     ((Yuv444, (4, 2), 10), (Yuv444, (4, 2), 10), Turn::Rotate90, Err(TurnError::DifferentSize { plane: 0 })),
     ((Yuv444, (4, 2), 10), (Yuv444, (2, 4), 10), Turn::FlipVertical, Err(TurnError::DifferentSize { plane: 0 })),
-    // Of several reasons the first is told: the source's chroma, the format, the bit depth, the size.
+    // If several errors apply, the first one is reported: the source's chroma, the format, the bit depth, the size.
     ((Yuv422, (4, 4), 10), (Yuv444, (8, 4), 12), Turn::Rotate90, Err(TurnError::UnevenSubsampling)),
     ((Yuv411, (4, 4), 10), (Yuv411, (4, 4), 12), Turn::Rotate270, Err(TurnError::UnevenSubsampling)),
     ((Yuv422, (4, 4), 10), (Yuv422, (8, 4), 10), Turn::Transpose, Err(TurnError::UnevenSubsampling)),
@@ -195,7 +195,7 @@ const ANSWERS: [(Kind, Kind, Turn, Result<(), TurnError>); 15] = [
     ((Yuv420, (4, 4), 10), (Yuv420, (8, 4), 12), Turn::Rotate180, Err(TurnError::DifferentBitDepth)),
 ];
 
-/// Exchanges the chroma planes of a frame for those of another one, where it is asked for.
+/// Replaces the chroma planes of a frame by those of another one, if the flags `u` and `v` are set.
 fn with_chroma_of(mut frame: Frame<u8>, other: &Frame<u8>, u: bool, v: bool) -> Frame<u8> {
     if u {
         frame.u_plane = other.u_plane.clone();

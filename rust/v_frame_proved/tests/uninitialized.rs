@@ -7,7 +7,7 @@ use std::rc::Rc;
 use support::planes::plane_of;
 use v_frame_proved::plane::{Plane, PlaneGeometry};
 
-/// Returns a plane of so many columns and one row that has no value anywhere.
+/// Returns a plane of one row without any value.
 fn vacant<T>(width: usize) -> Plane<Option<T>> {
     Plane::new_uninit(PlaneGeometry::unpadded(width, 1, 1, 1).expect("a geometry")).expect("memory")
 }
@@ -19,7 +19,7 @@ fn holding<T: Copy>(entries: &[Option<T>]) -> Plane<Option<T>> {
     plane
 }
 
-/// Returns the plane of the values, where each entry holds one.
+/// Returns the plane of the values. Each entry must have one.
 fn values<T>(plane: Plane<Option<T>>) -> Plane<T> {
     assert!(plane.is_init());
     plane.assume_init().ok().expect("memory")
@@ -88,7 +88,7 @@ impl Drop for Counted {
     }
 }
 
-/// Returns three entries of which the first few hold an element.
+/// Returns three entries. The first `count` of them have an element.
 fn held(drops: &Rc<Cell<usize>>, count: usize) -> Plane<Option<Counted>> {
     let mut plane = vacant(3);
     plane.data_mut().iter_mut().take(count).for_each(|entry| *entry = Some(Counted(drops.clone())));
@@ -153,7 +153,7 @@ fn entries_without_values_begin_at_addresses_that_64_divides() {
         let addresses = [
             vacant::<u8>(width).data().as_ptr().addr(),
             vacant::<u16>(width).data().as_ptr().addr(),
-            // These have three bytes.
+            // Each of these entries has three bytes.
             vacant::<[u8; 2]>(width).data().as_ptr().addr(),
         ];
         assert_eq!(addresses.map(|address| address % 64), [0; 3], "{width} entries");

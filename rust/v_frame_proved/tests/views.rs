@@ -1,4 +1,4 @@
-//! Views as values, what is read as a plane or as rows, planes as lists of rows, and frames as lists of planes.
+//! Views as values, types that can be read as a plane or as rows, planes as lists of rows, and frames as lists of planes.
 
 use std::panic::{AssertUnwindSafe, catch_unwind};
 use v_frame_proved::chroma::ChromaSubsampling::{self, Monochrome, Yuv411, Yuv420, Yuv422, Yuv444};
@@ -8,7 +8,7 @@ use v_frame_proved::pixel::Pixel;
 use v_frame_proved::plane::{Plane, PlaneGeometry, PlaneRef, RowsRef};
 use v_frame_proved::views::{AsPlaneRef, AsRowsRef};
 
-/// Returns a plane of 3 by 2 pixels, 10 y + x + 1, in a border of `border` pixels of 99.
+/// Returns a plane of 3 by 2 pixels, 10 y + x + 1, with `border` padding pixels of 99 on each side.
 fn plane(border: usize) -> Plane<u8> {
     let geometry = PlaneGeometry::new(3, 2, border, border, border, border, 1, 1).unwrap();
     let mut plane = Plane::new(geometry).unwrap();
@@ -17,7 +17,7 @@ fn plane(border: usize) -> Plane<u8> {
     plane
 }
 
-/// Returns a frame without a border whose sample at (x, y) of plane p is 100 p + 10 y + x.
+/// Returns a frame without padding whose sample at (x, y) of plane p is 100 p + 10 y + x.
 fn frame(width: usize, height: usize, format: ChromaSubsampling) -> Frame<u16> {
     let mut frame = FrameBuilder::new(width, height, format, 10).build::<u16>().unwrap();
     for (p, plane) in frame.planes_mut().enumerate() {
@@ -30,17 +30,17 @@ fn frame(width: usize, height: usize, format: ChromaSubsampling) -> Frame<u16> {
     frame
 }
 
-/// A function of a user's, over whatever is a plane.
+/// A function of a user for every type that can be read as a plane.
 fn sum<T: Pixel>(plane: impl AsPlaneRef<Pixel = T>) -> u64 {
     plane.as_plane_ref().pixels().map(|pixel| u64::from(pixel.into())).sum()
 }
 
-/// The same over whatever has rows, and by reference.
+/// A function of a user for every type that can be read as rows, which takes a reference.
 fn sum_of_rows<T: Pixel>(rows: &impl AsRowsRef<Pixel = T>) -> u64 {
     rows.as_rows_ref().rows().flatten().map(|&pixel| u64::from(pixel.into())).sum()
 }
 
-/// A picture of a user's.
+/// A picture type of a user.
 struct Picture(Vec<u8>);
 
 impl AsPlaneRef for Picture {
@@ -156,7 +156,7 @@ fn frames_are_lists_of_the_planes_that_exist() {
 
 #[test]
 fn crops_are_rectangles_of_all_planes() {
-    // Format, rectangle, size of chroma, first and last pixel of luma, of U.
+    // The format, the rectangle, the size of chroma, the first and the last luma pixel, and those of U.
     let cases = [
         (Monochrome, (3, 1, 2, 3), (0, 0), (13, 34), (0, 0)),
         (Yuv420, (2, 2, 4, 2), (2, 1), (22, 35), (111, 112)),

@@ -1,4 +1,4 @@
-//! YUV4MPEG2 streams: header lines, why they are refused, and streams that are copied or cut off.
+//! YUV4MPEG2 streams: header lines, their rejections, and streams that are copied or truncated.
 
 #![cfg(feature = "std")]
 
@@ -15,7 +15,7 @@ use v_frame_proved::y4m::{
     read_lax_header, strict_line, write_frame, write_header,
 };
 
-/// Lines that ffmpeg wrote; lines of large numbers, of many extensions, and of no bytes after a letter.
+/// Lines that ffmpeg wrote, and lines with large numbers, with many extensions, and with a letter without a value.
 const LINES: [&str; 12] = [
     "YUV4MPEG2 W35 H27 F25:1 Ip A36:35 C420jpeg XYSCSS=420JPEG XCOLORRANGE=LIMITED",
     "YUV4MPEG2 W36 H28 F30000:1001 Ip A10:11 C420mpeg2 XYSCSS=420MPEG2 XCOLORRANGE=LIMITED",
@@ -32,7 +32,7 @@ const LINES: [&str; 12] = [
     "YUV4MPEG2 W35 H27 X1 X2 X3 X4 X5 X6 X7 X8 X9 X10 X11 X12 X13 X14 X15 X16 X17 X18 X19 X20",
 ];
 
-/// Fails where a header line is read further than to its line feed, or not written back as the same bytes.
+/// Tests that a header line is read up to its line feed, and that it is written again as the same bytes.
 #[track_caller]
 fn comes_back(line: &[u8]) {
     let stream = [line, b"\nFRAME\nabc"].concat();
@@ -46,7 +46,7 @@ fn comes_back(line: &[u8]) {
     assert_eq!(out.into_inner(), [line, b"\n"].concat());
 }
 
-/// Returns a header line of this length, by one extension.
+/// Returns a header line of this length, which is reached with an extension.
 fn line_of(length: usize) -> Vec<u8> {
     let mut line = b"YUV4MPEG2 W35 H27 X".to_vec();
     line.resize(length, b'x');
@@ -69,7 +69,7 @@ fn parameters_are_written_in_order() {
     assert_eq!(header_line(&header).expect("memory"), b"YUV4MPEG2 W35 H12 Im C422 X1 Xb");
 }
 
-/// Returns a piece of a line.
+/// Returns a part of a line.
 fn piece(bytes: &[u8]) -> Text {
     Text::new(bytes).expect("memory")
 }
@@ -107,8 +107,8 @@ fn lines_are_refused_for_the_first_reason() {
     }
 }
 
-/// Fails where the header of a stream is refused for another reason, or more or less is read than so many bytes, one a
-/// call, and so many calls without a byte to read.
+/// Tests that the header of a stream is rejected for this reason, and that this number of bytes is read, one for each call,
+/// followed by this number of calls at the end.
 #[track_caller]
 fn refuses(stream: &[u8], error: Y4mError, (bytes, calls_at_end): (usize, usize)) {
     let mut input = Counted::new(reader(stream, usize::MAX));
@@ -161,7 +161,7 @@ fn errors_say_why() {
     assert_eq!(format!("{malformed:?}"), "Header(Malformed(Text { bytes: [90] }))");
 }
 
-/// The error of a frame of 60 bytes of which fewer are there.
+/// The error of a frame of 60 bytes of which only `found` are present.
 fn truncated(found: usize) -> Y4mError {
     Y4mError::Planar(PlanarError::Truncated { expected: 60, found })
 }
@@ -171,7 +171,7 @@ const STREAM: &[u8] = b"YUV4MPEG2 W30 H1 C420jpeg\nFRAME\n\
 abcdefghijklmnopqrstuvwxyz0123ABCDEFGHIJKLMNOPQRSTUVWXYZ4567FRAME Ip\n\
 7654ZYXWVUTSRQPONMLKJIHGFEDCBA3210zyxwvutsrqponmlkjihgfedcba";
 
-/// Returns a frame for a stream, of which the header is read.
+/// Reads the header of a stream, and returns a frame for it.
 fn frame_of<R: Read>(input: &mut Counted<R>) -> Frame<u8> {
     read_header(input).expect("a header").frame(0).expect("memory")
 }
@@ -214,7 +214,7 @@ fn streams_come_byte_by_byte() {
     assert_eq!(input.last_failure(), Some(ErrorKind::BrokenPipe));
 }
 
-/// Returns a frame for a header with a border of 5, whose planes have a picture each, and its bytes.
+/// Returns a frame for a header with padding of 5 and a picture in each plane, and its bytes.
 fn painted<T: Pixel>(header: &StreamHeader) -> (Frame<T>, Vec<u8>) {
     let mut frame = header.frame::<T>(5).expect("memory");
     let mut bytes = Vec::new();
@@ -228,7 +228,7 @@ fn painted<T: Pixel>(header: &StreamHeader) -> (Frame<T>, Vec<u8>) {
     (frame, bytes)
 }
 
-/// Fails where a stream of one frame is written as other bytes, or not read back, with its lines and as planar bytes.
+/// Tests that a stream of one frame is written as the right bytes and can be read again, with its lines and as planar bytes.
 fn goes_through<T: Pixel>(line: &str) {
     let header = parse_header(line.as_bytes()).expect("a header");
     let (frame, bytes) = painted::<T>(&header);
@@ -272,12 +272,12 @@ fn frames_have_as_many_bytes_as_can_be_counted() {
     }
 }
 
-/// Lines that lax producers write, and the strict line that each stands for.
+/// Lax lines, and the strict line that each means.
 #[test]
 fn lax_lines_stand_for_strict_ones() {
     for (lax, strict) in [
         ("YUV4MPEG2 W35 H27 F25", "YUV4MPEG2 W35 H27 F25:1"),
-        // As many spaces are too many as bytes are missing.
+        // The lax line has as many additional spaces as it lacks bytes, so both lines have the same length.
         ("YUV4MPEG2  W35 H27  F25", "YUV4MPEG2 W35 H27 F25:1"),
         (" YUV4MPEG2 H27 W35 F30000:1001 \r", "YUV4MPEG2 H27 W35 F30000:1001"),
         ("YUV4MPEG2 W35 H27 X F1 X ", "YUV4MPEG2 W35 H27 X F1:1 X"),

@@ -2,7 +2,7 @@
 #![forbid(unsafe_code)]
 
 mod generated {
-    // Its modules name what its tests call, too.
+    // The tests of these modules use more of their imports than the program does.
     #[allow(unused_imports)]
     pub mod v_frame_tool;
     pub mod v_frame_tool_run;

@@ -1,4 +1,4 @@
-//! What the program says where it gives up, beside the table of all texts of errors.
+//! Compares the error messages of the program with the table of all error messages.
 
 use crate::generated::v_frame_tool_run::fault::ToolFault;
 use v_frame_proved::frame::FrameError;

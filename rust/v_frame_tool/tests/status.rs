@@ -1,4 +1,4 @@
-//! The status of the program.
+//! Tests the exit status of the program.
 #![cfg(target_os = "linux")]
 
 use std::fs::OpenOptions;

@@ -1,8 +1,9 @@
-//! The program `yuv`: raw video in streams of frames, told, compared, copied, summed, and shown as pictures.
+//! The program `yuv`: prints information about raw video streams, compares and copies them, prints statistics, and writes
+//! pictures.
 //!
-//! It runs on Unix, for it tells files that have two names by their numbers there.
+//! It runs on Unix only, because it uses inode numbers to recognize files that have two names.
 #![forbid(unsafe_code)]
-// The sources are translated as they are written, for a prover too. These hints would have them otherwise.
+// The sources are translated as they were written for the prover. These lints would suggest other forms.
 #![allow(
     clippy::drop_non_drop,
     clippy::enum_variant_names,
@@ -25,7 +26,7 @@ compile_error!("`yuv` tells files that have two names by their numbers, which Un
 
 mod support;
 
-// Other programs of the sources name more of these libraries.
+// Other programs made from the sources use more of these libraries.
 #[allow(dead_code, unused_imports)]
 mod generated {
     pub mod yuv;
@@ -51,7 +52,7 @@ fn main() -> ExitCode {
     match HostRuntime::new() {
         Ok(rt) => generated::yuv::main(rt),
         Err(error) => {
-            // Where standard error takes nothing, the status still tells.
+            // If the message cannot be written, the exit status still reports the error.
             let _ = writeln!(io::stderr(), "yuv: {error}");
             ExitCode::from(2)
         }

@@ -1,4 +1,4 @@
-//! The kept runs of the program itself, where its standard output takes all.
+//! Tests the program itself with the recorded runs whose standard output accepts everything.
 
 #[path = "../src/tests/cases.rs"]
 mod cases;
@@ -22,7 +22,7 @@ fn the_program_writes_what_kept_runs_do() {
     }
 }
 
-/// Runs the program in the folder, with its standard input.
+/// Runs the program in the directory, with its standard input.
 fn output_of(room: &Room, case: &Case) -> Output {
     let mut program = Command::new(env!("CARGO_BIN_EXE_yuv"))
         .args(&case.words)
@@ -33,7 +33,7 @@ fn output_of(room: &Room, case: &Case) -> Output {
         .spawn()
         .expect("the program");
     let (mut input, given) = (program.stdin.take().expect("a pipe"), case.given(room));
-    // A run need not read all, and then its input can't be written.
+    // If a run does not read all its input, writing the input fails.
     let writing = thread::spawn(move || input.write_all(&given));
     let output = program.wait_with_output().expect("an output");
     let _ = writing.join();
@@ -48,7 +48,7 @@ fn an_argument_that_is_not_utf8_is_refused() {
     assert!(output.stderr.starts_with(b"yuv: an argument is not UTF-8\n"), "{output:?}");
 }
 
-/// Returns a stream of frames of 8 by 8 pixels in 4:4:4, of so many bits, whose planes have one value each.
+/// Returns a stream of 4:4:4 frames of 8 by 8 pixels with this bit depth, whose planes have one value each.
 fn flat_stream(depth: u8, frames: &[[u16; 3]]) -> Vec<u8> {
     let mut stream = format!("YUV4MPEG2 W8 H8 C444p{depth}\n").into_bytes();
     for planes in frames {
@@ -58,18 +58,19 @@ fn flat_stream(depth: u8, frames: &[[u16; 3]]) -> Vec<u8> {
     stream
 }
 
-/// Returns what a run writes.
+/// Returns the output of a run.
 fn run(room: &Room, words: &[&str]) -> Output {
     Command::new(env!("CARGO_BIN_EXE_yuv")).args(words).current_dir(room.folder()).output().expect("an output")
 }
 
-/// Returns the chart of a measure: what Y, U and V have in the frames from the second on.
+/// Returns the chart of a measure, with the values of Y, U and V in the frames from the second one on.
 fn chart(unit: &str, [y, u, v]: [[f64; 2]; 3]) -> String {
     let series = [("Y", &y), ("U", &u), ("V", &v)].map(|(name, values)| Series { name, values });
     svg(&Chart { title: "one.y4m and other.y4m", unit, first: 2, series: &series }).expect("drawn")
 }
 
-/// Of flat planes that are `d` apart the ratio is 20 log10(1023 / d), and the similarity that of the means, both by Python.
+/// If flat planes differ by `d`, their PSNR is 20 log10(1023 / d), and their SSIM is that of the means. Both were computed in
+/// Python.
 #[test]
 fn a_plot_draws_both_measures_of_each_plane() {
     let room = Room::new("plot");
@@ -94,7 +95,8 @@ fn a_plot_draws_both_measures_of_each_plane() {
     assert_eq!((output.status.code(), String::from_utf8_lossy(&output.stdout)), (Some(0), wanted.into()));
 }
 
-/// The ratios of planes that are 1, 2 and 4 apart, and of all of them, are by Python: 20 log10((2^depth - 1) / d).
+/// The PSNR values of planes that differ by 1, 2 and 4, and of all planes together, were computed in Python: 20 log10((2^depth
+/// - 1) / d).
 #[test]
 fn ratios_are_those_of_each_depth() {
     let room = Room::new("depths");
@@ -116,7 +118,7 @@ fn ratios_are_those_of_each_depth() {
     }
 }
 
-/// A last odd column or row of luma has chroma, too, so that chroma of 15 columns or rows has 8.
+/// Chroma sizes are rounded up, so that 15 columns or rows of luma have 8 of chroma.
 #[test]
 fn chroma_whose_size_is_rounded_up_has_windows() {
     let room = Room::new("windows");
@@ -146,14 +148,14 @@ fn chroma_whose_size_is_rounded_up_has_windows() {
             assert_eq!((output.status.code(), text.as_ref(), error.as_ref()), (Some(2), "", refusal), "{format} {size:?}");
         }
     }
-    // The first stream is looked at before the two are compared.
+    // The first stream is checked before the two are compared.
     write("large.y4m", "mono", (8, 8), 64);
     let said = |words: [&str; 2]| String::from_utf8(run(&room, &["compare", words[0], words[1], "--ssim"]).stderr).expect("text");
     assert_eq!(said(["one.y4m", "large.y4m"]), refusal);
     assert_eq!(said(["large.y4m", "one.y4m"]), "yuv: one.y4m: the streams have different sizes\n");
 }
 
-/// What help has in brackets behind an option is what holds where it is not given.
+/// The default that the help states for an option is the one that is used.
 #[test]
 fn help_tells_what_nobody_asks_for() {
     let room = Room::new("defaults");
@@ -177,8 +179,8 @@ fn help_tells_what_nobody_asks_for() {
     }
 }
 
-/// A name of 255 bytes, as long as a name may be, is cut, so that each of a hundred endings has room behind it. Here the first
-/// ten are taken, behind whatever is left of the name.
+/// A name of 255 bytes, which is the maximum, is truncated so that each of a hundred suffixes fits. In this test, the first ten
+/// suffixed names exist already.
 #[test]
 fn a_long_name_has_room_for_each_ending() {
     let room = Room::new("long");
@@ -219,7 +221,7 @@ fn semi_planar_video_has_no_sums_of_planes() {
     }
 }
 
-/// A target that is standard output has the name by which it was given, but for the word `-`.
+/// If the target is standard output, it is reported by the name that was given for it, unless that is `-`.
 #[test]
 fn standard_output_has_the_name_that_it_was_given_by() {
     let room = Room::new("names");
@@ -232,7 +234,7 @@ fn standard_output_has_the_name_that_it_was_given_by() {
     }
 }
 
-/// The sum of 65792 samples of 65535 is above 2^32.
+/// The sum of 65792 samples of 65535 exceeds 2^32.
 #[test]
 fn statistics_of_a_large_sum() {
     let room = Room::new("statistics");
@@ -244,7 +246,7 @@ fn statistics_of_a_large_sum() {
     assert_eq!((output.status.code(), String::from_utf8_lossy(&output.stdout).as_ref()), (Some(0), wanted));
 }
 
-/// A frame of 40000 bytes, of which some are there, is read in parts where its samples are not looked at.
+/// A truncated frame of 40000 bytes is read in several parts if its samples are not needed.
 #[test]
 fn bytes_of_all_parts_of_a_frame_are_counted() {
     let room = Room::new("parts");
@@ -260,7 +262,7 @@ fn bytes_of_all_parts_of_a_frame_are_counted() {
     }
 }
 
-/// Another format leaves out just what states the format once more.
+/// A copy to another format removes only the extensions that state the format.
 #[test]
 fn copies_in_another_format_keep_other_extensions() {
     let room = Room::new("extensions");

@@ -1,4 +1,4 @@
-//! Rows of two chroma components, by turns in one row or each in its own.
+//! Interleaves rows of two chroma components, and splits interleaved rows.
 ghost use Rattle.std.specs.Prelude.{◌≡◌, ◌*◌, length};
 ghost use Rattle.v_frame.specs.Prelude.{height_of, strided_rows, width_of, KeepsRest, RowsFit};
 ghost use Rattle.v_frame_ops.specs.Change.{combined};
@@ -8,8 +8,9 @@ use crate::byte_pairs::{deinterleave_blocks, pairs_in_blocks};
 use v_frame::pixel::Pixel;
 use v_frame::plane::RowsRef;
 
-/// Makes a row of two: a pixel of `first`, one of `second`, and so on by turns. It must be as long as both together, which are
-/// equally long.
+/// Interleaves two rows: even columns of `row` get the pixels of `first`, and odd columns those of `second`.
+///
+/// `first` and `second` have the same length. `row` is twice as long.
 pub fn interleave_row<T: Copy>(row: &mut [T], first: &[T], second: &[T])
     requires long { length row.old ≡ 2 * length first.now }
     requires equal { length second.now ≡ length first.now }
@@ -22,8 +23,8 @@ pub fn interleave_row<T: Copy>(row: &mut [T], first: &[T], second: &[T])
     }
 }
 
-/// The same of eight pixels of each. They are put together apart from the row, which might overlap them for all that the
-/// compiler knows.
+/// Interleaves eight pixels of each row. They are combined in an array first, because the compiler cannot exclude that the row
+/// overlaps them.
 #[inline(always)]
 fn interleave_eight<T: Copy>(row: &mut [T], first: &[T], second: &[T])
     requires long { length row.old ≡ 16 }
@@ -33,13 +34,13 @@ fn interleave_eight<T: Copy>(row: &mut [T], first: &[T], second: &[T])
 {
     let mut pairs = [first[0]; 16];
     interleave_pixels(&mut pairs, first, second);
-    // One by one: bytes that are copied at once are one number, of which no lanes are made.
+    // Pixel by pixel: a copy of all bytes at once is one number to the compiler, which it does not turn into lanes.
     for x in 0..16 {
         row[x] = pairs[x];
     }
 }
 
-/// The same, pixel by pixel.
+/// Interleaves two rows pixel by pixel.
 #[inline(always)]
 fn interleave_pixels<T: Copy>(row: &mut [T], first: &[T], second: &[T])
     requires long { length row.old ≡ 2 * length first.now }
@@ -53,14 +54,16 @@ fn interleave_pixels<T: Copy>(row: &mut [T], first: &[T], second: &[T])
     }
 }
 
-/// Makes two rows of one, whose pixels go to `first` and to `second` by turns. Both are half as long.
+/// Splits a row of interleaved pixels: `first` gets the pixels in even columns of `row`, and `second` those in odd columns.
+///
+/// `first` and `second` have the same length. `row` is twice as long.
 pub fn deinterleave_row<T: Pixel>(row: &[T], first: &mut [T], second: &mut [T])
     requires long { length row.now ≡ 2 * length first.old }
     requires equal { length second.old ≡ length first.old }
     ensures { row.now ≡ interleaved first.new second.new }
 {
     if first.len() == 8 {
-        // Of so few, whose number it knows, the compiler makes no loop.
+        // The compiler unrolls the loop over this small, constant number of pixels.
         deinterleave_pixels(row, first, second);
         return;
     }
@@ -72,7 +75,7 @@ pub fn deinterleave_row<T: Pixel>(row: &[T], first: &mut [T], second: &mut [T])
     deinterleave_pixels(rest, first_rest, second_rest);
 }
 
-/// The same, pixel by pixel.
+/// Splits a row of interleaved pixels, pixel by pixel.
 #[inline(always)]
 fn deinterleave_pixels<T: Copy>(row: &[T], first: &mut [T], second: &mut [T])
     requires long { length row.now ≡ 2 * length first.old }
@@ -80,15 +83,18 @@ fn deinterleave_pixels<T: Copy>(row: &[T], first: &mut [T], second: &mut [T])
     ensures { row.now ≡ interleaved first.new second.new }
 {
     for x in 0..first.len() {
-        // Both are read before one is written, which the compiler makes one wide load of.
+        // Both pixels are read before one is written, so that the compiler can combine the reads into one wide load.
         let (p, q) = (row[2 * x], row[2 * x + 1]);
         first[x] = p;
         second[x] = q;
     }
 }
 
-/// Makes each of the rows of two, one of `first` and one of `second`, by turns as [`interleave_row`] does. They are twice as
-/// wide as those two, which have the same size.
+/// Interleaves the rows of two pictures: in each row of `buffer`, even columns get the pixels of `first` and odd columns those
+/// of `second`, as with [`interleave_row`].
+///
+/// `width`, `height` and `stride` describe the rows in `buffer`, in pixels. `first` and `second` have the same size: half of
+/// `width`, and `height`.
 #[tactic(auto, using(v_frame_raster::proofs::tables::StridedWrites::row_ends))]
 pub fn interleave<T: Copy>(
     first: &RowsRef<'_, T>,
@@ -114,8 +120,11 @@ pub fn interleave<T: Copy>(
     }
 }
 
-/// Makes the rows of two buffers, which have the same size, of those of one, which are twice as wide: its pixels go to the
-/// first and to the second by turns.
+/// Splits rows of interleaved pixels: the rows in the buffer `first` get the pixels in even columns of `source`, and those in
+/// `second` the pixels in odd columns.
+///
+/// `width` and `height` are the size, in pixels, of the rows in each of the two buffers, and `first_stride` and `second_stride`
+/// their strides. `source` is twice as wide and equally high.
 #[tactic(auto, using(v_frame_raster::proofs::tables::StridedWrites::row_ends))]
 pub fn deinterleave<T: Pixel>(
     source: &RowsRef<'_, T>,

@@ -1,4 +1,4 @@
-//! Frames cut out of frames. This module is written by hand, and not made from proved sources.
+//! Crops frames. This module is written by hand and not generated from proved sources.
 
 use crate::frame::Frame;
 use crate::ops::copy_region;
@@ -11,16 +11,16 @@ use core::fmt;
 #[derive(Debug, Clone, Copy, PartialEq, Eq, Hash)]
 #[non_exhaustive]
 pub enum CropError {
-    /// The rectangle is empty, or not inside the frame.
+    /// The rectangle is empty or not inside the frame.
     Outside,
-    /// The rectangle doesn't begin at the border of a chroma sample.
+    /// The rectangle does not begin at the edge of a chroma sample.
     Misaligned {
-        /// How many luma columns a chroma sample has.
+        /// The number of luma columns for each chroma column.
         columns: usize,
-        /// How many luma rows a chroma sample has.
+        /// The number of luma rows for each chroma row.
         rows: usize,
     },
-    /// A request for memory was refused.
+    /// A memory allocation failed.
     OutOfMemory,
 }
 
@@ -45,10 +45,10 @@ impl From<AllocError> for CropError {
     }
 }
 
-/// These calls are written by hand, and not made from proved sources.
+/// These methods are written by hand and not generated from proved sources.
 impl<T: Pixel> Frame<T> {
-    /// Returns a copy of the rectangle of `width` by `height` luma pixels that begins at column `x` of row `y`, with the chroma
-    /// beside it, as a frame without a border. An odd size has chroma rounded up, as a video file has it.
+    /// Returns a copy of the rectangle of `width` by `height` luma pixels whose top left pixel is in column `x` and row `y`.
+    /// The copy has no padding. It has the chroma of the rectangle, whose size is rounded up, as in video files.
     ///
     /// ```
     /// use v_frame_proved::chroma::ChromaSubsampling;
@@ -66,9 +66,11 @@ impl<T: Pixel> Frame<T> {
     ///
     /// # Errors
     ///
-    /// The first of these that holds: [`CropError::Misaligned`] where `x` or `y` is not at the border of a chroma sample;
-    /// [`CropError::Outside`] where the rectangle is empty, or it or its chroma not inside the planes;
-    /// [`CropError::OutOfMemory`] where a request for memory was refused.
+    /// The first of these that applies:
+    ///
+    /// - [`CropError::Misaligned`] if `x` or `y` is not at the edge of a chroma sample.
+    /// - [`CropError::Outside`] if the rectangle is empty, or if it or its chroma is not inside the planes.
+    /// - [`CropError::OutOfMemory`] if a memory allocation fails.
     pub fn crop(&self, x: usize, y: usize, width: usize, height: usize) -> Result<Self, CropError> {
         let (columns, rows) = match self.subsampling.subsample_ratio() {
             Some((columns, rows)) => (usize::from(columns.get()), usize::from(rows.get())),
@@ -89,12 +91,12 @@ impl<T: Pixel> Frame<T> {
     }
 }
 
-/// Returns a copy of the rectangle of a size (width, height) at a place (column, row) of a plane.
+/// Returns a copy of the rectangle of a plane with the size (width, height) at the position (column, row).
 fn part<T: Pixel>(plane: &Plane<T>, place: (usize, usize), size: (usize, usize)) -> Result<Plane<T>, CropError> {
     let region = plane.as_plane_ref().region(place.0, place.1, size.0, size.1).ok_or(CropError::Outside)?;
     let whole = plane.geometry();
     let geometry = PlaneGeometry::unpadded(size.0, size.1, whole.subsampling_x(), whole.subsampling_y());
-    // A buffer can be as large, for that of the plane is.
+    // The size of the buffer cannot overflow, since it is at most that of the source.
     let mut copy = Plane::new(geometry.ok_or(CropError::Outside)?)?;
     copy_region(&region, &mut copy, 0, 0);
     Ok(copy)

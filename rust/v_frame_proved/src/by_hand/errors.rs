@@ -1,11 +1,11 @@
-//! Errors of streams as Rust's own.
+//! Implements the error trait of `std` for errors of streams.
 
 use crate::streams::StreamError;
 use core::error::Error;
 
 impl Error for StreamError {
     fn source(&self) -> Option<&(dyn Error + 'static)> {
-        // The text names the problem itself.
+        // The message already contains the problem itself.
         self.problem.source()
     }
 }

@@ -1,7 +1,7 @@
-//! What Rust programs want beside the proved sources.
+//! Additions for Rust programs.
 //!
-//! All in this directory is written by hand, and not made from proved sources. It calls what is for all that reads, copies or
-//! measures pixels.
+//! Everything in this directory is written by hand and not generated from proved sources. Reading, copying and measuring pixels
+//! is left to the generated code.
 
 pub mod crop;
 #[cfg(feature = "std")]

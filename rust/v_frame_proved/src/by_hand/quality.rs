@@ -1,7 +1,8 @@
-//! PSNR, SSIM and mean squared errors that refuse what they have no number for.
+//! PSNR, SSIM and mean squared errors with checked arguments.
 //!
-//! This module is written by hand, and not made from proved sources. The numbers are those of [`measures`](crate::measures),
-//! which is; there two sizes end in a panic, and a depth that no sample has in a number that says nothing.
+//! This module is written by hand and not generated from proved sources. The numbers come from [`measures`](crate::measures),
+//! which is generated. The functions there panic if the sizes differ, and return a meaningless number for a bit depth that the
+//! pixels cannot have. The functions here return an error in these cases.
 //!
 //! ```
 //! use v_frame_proved::plane::{Plane, PlaneGeometry};
@@ -22,25 +23,25 @@ use crate::plane::PlaneRef;
 use crate::views::AsPlaneRef;
 use core::fmt;
 
-/// Why two pictures were not measured.
+/// Why two pictures could not be measured.
 #[derive(Debug, Clone, Copy, PartialEq, Eq, Hash)]
 #[non_exhaustive]
 pub enum MeasureError {
-    /// The pixels have no such bit depth: those of `u8` have 8 bits, and those of `u16` 9 to 16.
+    /// Pixels of this type cannot have this bit depth: `u8` pixels have 8 bits, and `u16` pixels have 9 to 16.
     UnsupportedBitDepth {
-        /// The bit depth.
+        /// The bit depth that was given.
         found: u8,
     },
-    /// Two frames have different bit depths.
+    /// The bit depths of the two frames differ.
     DepthsDiffer {
-        /// The bit depth of the first.
+        /// The bit depth of the first frame.
         first: u8,
-        /// The bit depth of the second.
+        /// The bit depth of the second frame.
         second: u8,
     },
-    /// The sizes differ, or the planes that frames have.
+    /// The sizes differ, or only one of the frames has chroma planes.
     SizesDiffer,
-    /// A plane has fewer than 8 columns or rows, so no window of SSIM stands in it.
+    /// A plane has fewer than 8 columns or rows, which is the size of an SSIM window.
     TooSmall,
 }
 
@@ -57,24 +58,25 @@ impl fmt::Display for MeasureError {
 
 impl core::error::Error for MeasureError {}
 
-/// The peak signal-to-noise ratio of two frames in decibels: of each plane, and of all planes together.
+/// The peak signal-to-noise ratio (PSNR) of two frames in decibels: of each plane, and of all planes together.
 #[derive(Debug, Clone, Copy, PartialEq)]
 pub struct FramePsnr {
-    /// That of luma.
+    /// The PSNR of luma.
     pub y: f64,
-    /// That of the first chroma plane, where there is one.
+    /// The PSNR of the first chroma plane, if the frames have chroma.
     pub u: Option<f64>,
-    /// That of the second chroma plane, where there is one.
+    /// The PSNR of the second chroma plane, if the frames have chroma.
     pub v: Option<f64>,
-    /// That of the mean squared error over the pixels of all planes, which is not the mean of the ratios.
+    /// The PSNR of the mean squared error over the pixels of all planes. It is not the mean of the other ratios.
     pub all: f64,
 }
 
-/// Returns the peak signal-to-noise ratio of two planes of one size in decibels, infinite where they show the same.
+/// Returns the peak signal-to-noise ratio of two planes in decibels. It is infinite if the planes are equal.
 ///
 /// # Errors
 ///
-/// [`MeasureError::UnsupportedBitDepth`] where `T` has no pixels of this depth, else [`MeasureError::SizesDiffer`].
+/// - [`MeasureError::UnsupportedBitDepth`] if pixels of type `T` cannot have this bit depth.
+/// - [`MeasureError::SizesDiffer`] if the sizes of the planes differ.
 pub fn psnr<T: Pixel>(
     a: impl AsPlaneRef<Pixel = T>,
     b: impl AsPlaneRef<Pixel = T>,
@@ -84,12 +86,15 @@ pub fn psnr<T: Pixel>(
     Ok(measures::psnr(mean_squared_error(&a, &b), bit_depth))
 }
 
-/// Returns the structural similarity (SSIM) of two planes of one size, at most 1: as [`measures::ssim`] has it.
+/// Returns the structural similarity (SSIM) of two planes, which is at most 1. [`measures::ssim`] defines it.
 ///
 /// # Errors
 ///
-/// The first of these that holds: [`MeasureError::UnsupportedBitDepth`] where `T` has no pixels of this depth,
-/// [`MeasureError::SizesDiffer`], and [`MeasureError::TooSmall`] where a side is below 8.
+/// The first of these that applies:
+///
+/// - [`MeasureError::UnsupportedBitDepth`] if pixels of type `T` cannot have this bit depth.
+/// - [`MeasureError::SizesDiffer`] if the sizes of the planes differ.
+/// - [`MeasureError::TooSmall`] if the planes have fewer than 8 columns or rows.
 pub fn ssim<T: Pixel>(
     a: impl AsPlaneRef<Pixel = T>,
     b: impl AsPlaneRef<Pixel = T>,
@@ -99,18 +104,18 @@ pub fn ssim<T: Pixel>(
     measures::ssim(&a, &b, bit_depth).ok_or(MeasureError::TooSmall)
 }
 
-/// Returns the mean squared errors of two frames of one size, format and depth: of each plane, and of all pixels together.
-/// See the example of [`VideoFrame`](crate::y4m::VideoFrame).
+/// Returns the mean squared errors of two frames: of each plane, and of all pixels together. The example of
+/// [`VideoFrame`](crate::y4m::VideoFrame) shows their use.
 ///
 /// # Errors
 ///
-/// Those of [`frame_psnr`].
+/// The errors of [`frame_psnr`].
 pub fn frame_mean_squared_error<T: Pixel>(a: &Frame<T>, b: &Frame<T>) -> Result<FrameMeasure, MeasureError> {
     check_frames(a, b)?;
     Ok(measures::frame_mean_squared_error(a, b))
 }
 
-/// Returns the peak signal-to-noise ratios of two frames of one size, format and depth.
+/// Returns the peak signal-to-noise ratios of two frames: of each plane, and of all pixels together.
 ///
 /// ```
 /// use v_frame_proved::chroma::ChromaSubsampling;
@@ -132,26 +137,30 @@ pub fn frame_mean_squared_error<T: Pixel>(a: &Frame<T>, b: &Frame<T>) -> Result<
 ///
 /// # Errors
 ///
-/// The first of these that holds: [`MeasureError::DepthsDiffer`], [`MeasureError::UnsupportedBitDepth`] where `T` has no
-/// pixels of the frames' depth, and [`MeasureError::SizesDiffer`].
+/// The first of these that applies:
+///
+/// - [`MeasureError::DepthsDiffer`] if the bit depths of the frames differ.
+/// - [`MeasureError::UnsupportedBitDepth`] if pixels of type `T` cannot have the bit depth of the frames.
+/// - [`MeasureError::SizesDiffer`] if the sizes of the planes differ, or if only one of the frames has chroma planes.
 pub fn frame_psnr<T: Pixel>(a: &Frame<T>, b: &Frame<T>) -> Result<FramePsnr, MeasureError> {
     let errors = frame_mean_squared_error(a, b)?;
     let ratio = |error| measures::psnr(error, a.bit_depth.get());
     Ok(FramePsnr { y: ratio(errors.y), u: errors.u.map(ratio), v: errors.v.map(ratio), all: ratio(errors.all) })
 }
 
-/// Returns the structural similarities of two frames of one size, format and depth: of each plane, and their mean, each weighed
-/// by the pixels of its plane. See the example of [`frame_psnr`].
+/// Returns the structural similarities of two frames: of each plane, and their mean, weighted by the number of pixels of each
+/// plane. The example of [`frame_psnr`] shows its use.
 ///
 /// # Errors
 ///
-/// Those of [`frame_psnr`], and else [`MeasureError::TooSmall`] where a side of a plane is below 8.
+/// - The errors of [`frame_psnr`].
+/// - [`MeasureError::TooSmall`] if a plane has fewer than 8 columns or rows.
 pub fn frame_ssim<T: Pixel>(a: &Frame<T>, b: &Frame<T>) -> Result<FrameMeasure, MeasureError> {
     check_frames(a, b)?;
     measures::frame_ssim(a, b).ok_or(MeasureError::TooSmall)
 }
 
-/// Returns the planes, where they can be measured.
+/// Returns the two planes if they can be measured.
 fn checked<'a, T: Pixel>(
     a: &'a impl AsPlaneRef<Pixel = T>,
     b: &'a impl AsPlaneRef<Pixel = T>,
@@ -162,7 +171,7 @@ fn checked<'a, T: Pixel>(
     if (a.width(), a.height()) == (b.width(), b.height()) { Ok((a, b)) } else { Err(MeasureError::SizesDiffer) }
 }
 
-/// Refuses frames that can't be measured.
+/// Tests whether two frames can be measured.
 fn check_frames<T: Pixel>(a: &Frame<T>, b: &Frame<T>) -> Result<(), MeasureError> {
     let (first, second) = (a.bit_depth.get(), b.bit_depth.get());
     if first != second {
@@ -172,7 +181,7 @@ fn check_frames<T: Pixel>(a: &Frame<T>, b: &Frame<T>) -> Result<(), MeasureError
     if frames_have_one_size(a, b) { Ok(()) } else { Err(MeasureError::SizesDiffer) }
 }
 
-/// Refuses a depth that no pixels of this type have.
+/// Tests whether pixels of type `T` can have this bit depth.
 fn check_depth<T: Pixel>(bit_depth: u8) -> Result<(), MeasureError> {
     let depths = if T::PIXEL_BYTES == 1 { 8..=8 } else { 9..=16 };
     if depths.contains(&bit_depth) { Ok(()) } else { Err(MeasureError::UnsupportedBitDepth { found: bit_depth }) }

@@ -1,10 +1,10 @@
-//! Debug texts of streams and pictures, without what their buffers hold.
+//! Debug texts of streams and pictures, without the contents of their buffers.
 
 use crate::pixel::Pixel;
 use crate::streams::{Picture, Sink, Source};
 use core::fmt;
 
-/// What is known of the stream, without the reader.
+/// Shows the properties of the stream, without the reader.
 impl<R> fmt::Debug for Source<R> {
     fn fmt(&self, f: &mut fmt::Formatter<'_>) -> fmt::Result {
         f.debug_struct("Source")
@@ -16,7 +16,7 @@ impl<R> fmt::Debug for Source<R> {
     }
 }
 
-/// What is known of the stream, without the writer.
+/// Shows the properties of the stream, without the writer.
 impl<W> fmt::Debug for Sink<W> {
     fn fmt(&self, f: &mut fmt::Formatter<'_>) -> fmt::Result {
         f.debug_struct("Sink")
@@ -26,7 +26,7 @@ impl<W> fmt::Debug for Sink<W> {
     }
 }
 
-/// The size and the format, without the pixels.
+/// Shows the size and the format, without the pixels.
 impl<T: Pixel> fmt::Debug for Picture<T> {
     fn fmt(&self, f: &mut fmt::Formatter<'_>) -> fmt::Result {
         f.debug_struct("Picture")

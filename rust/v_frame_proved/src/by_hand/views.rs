@@ -1,8 +1,8 @@
-//! Views of planes as values, traits for all that is read as a plane, and planes as lists of rows. All of it is written by
-//! hand, and not made from proved sources.
+//! Traits for everything that can be read as a plane or as rows, views of planes as values, and planes as lists of rows. This
+//! module is written by hand and not generated from proved sources.
 //!
-//! A function that reads takes a plane, a plane of a frame and a view alike where it asks for [`AsPlaneRef`], or for
-//! [`AsRowsRef`] where it needs no border:
+//! A function that reads a plane can take planes, references to planes and views alike, if its parameter is an [`AsPlaneRef`].
+//! If it does not need the padding, [`AsRowsRef`] accepts even more:
 //!
 //! ```
 //! use v_frame_proved::pixel::Pixel;
@@ -25,14 +25,14 @@ use crate::plane::{Plane, PlaneRef, Rows, RowsMut, RowsRef};
 use core::iter::FusedIterator;
 use core::ops::{Index, IndexMut};
 
-/// What can be read as a plane: a [`Plane`], a [`PlaneRef`] and references to them, and types of one's own that hold a picture.
+/// A type that can be read as a plane: [`Plane`], [`PlaneRef`], references to them, and your own types that hold a picture.
 ///
 /// ```
 /// use v_frame_proved::plane::{PlaneGeometry, PlaneRef};
 /// use v_frame_proved::statistics::maximum;
 /// use v_frame_proved::views::AsPlaneRef;
 ///
-/// /// A picture of 4 by 4 pixels of 10 bits, as another library has it.
+/// /// A picture of 4 by 4 pixels of 10 bits, as another library stores it.
 /// struct Thumbnail([u16; 16]);
 ///
 /// impl AsPlaneRef for Thumbnail {
@@ -47,23 +47,23 @@ use core::ops::{Index, IndexMut};
 /// assert_eq!(maximum(Thumbnail([1023; 16])), 1023);
 /// ```
 pub trait AsPlaneRef {
-    /// What the plane holds.
+    /// The type of the pixels.
     type Pixel;
 
-    /// Returns the plane, lent for reading.
+    /// Returns a view of the plane.
     fn as_plane_ref(&self) -> PlaneRef<'_, Self::Pixel>;
 }
 
-/// What can be read as rows without a border: whatever can be read as a plane, and a [`RowsRef`].
+/// A type that can be read as rows of pixels without padding: every type that can be read as a plane, and [`RowsRef`].
 pub trait AsRowsRef {
-    /// What the rows hold.
+    /// The type of the pixels.
     type Pixel;
 
-    /// Returns the visible rows, lent for reading.
+    /// Returns a view of the visible rows.
     fn as_rows_ref(&self) -> RowsRef<'_, Self::Pixel>;
 }
 
-/// Implements a trait by a view of `self`.
+/// Implements a trait with a view of `self`.
 macro_rules! read_by {
     ($name:ident :: $call:ident -> $result:ident: $([$($bounds:tt)*] $owner:ty, $pixel:ty, $self:ident => $view:expr;)*) => {$(
         impl<$($bounds)*> $name for $owner {
@@ -90,7 +90,7 @@ read_by! { AsRowsRef::as_rows_ref -> RowsRef:
     [T] &RowsRef<'_, T>, T, self => **self;
 }
 
-/// Implements what makes a view a value, and reads its rows by `[y]`.
+/// Implements the traits of a view that make it a value and give access to its rows with `[y]`.
 macro_rules! view {
     ($view:ident) => {
         impl<T> Copy for $view<'_, T> {}
@@ -104,13 +104,13 @@ macro_rules! view {
 
         impl<T: Eq> Eq for $view<'_, T> {}
 
-        /// Reads the visible pixels of a row by its number.
+        /// Returns the visible pixels of the row with this index.
         impl<T> Index<usize> for $view<'_, T> {
             type Output = [T];
 
             /// # Panics
             ///
-            /// Panics where `y` is not below the height.
+            /// Panics if `y` is not below the height.
             #[track_caller]
             #[inline]
             fn index(&self, y: usize) -> &[T] {
@@ -130,8 +130,9 @@ macro_rules! view {
 view!(PlaneRef);
 view!(RowsRef);
 
-/// Views are equal as planes are: where their geometries and their whole buffers are, the borders too. The views of two regions
-/// have all around them as a border; compare their [`as_rows_ref`](PlaneRef::as_rows_ref) to compare what they show.
+/// Two views are equal if their geometries and their whole buffers are equal, padding included. Planes are compared in the same
+/// way. The view of a region has the pixels around it as padding. To compare only the visible pixels, compare the results of
+/// [`as_rows_ref`](PlaneRef::as_rows_ref).
 impl<T: PartialEq> PartialEq for PlaneRef<'_, T> {
     #[inline]
     fn eq(&self, other: &Self) -> bool {
@@ -139,7 +140,7 @@ impl<T: PartialEq> PartialEq for PlaneRef<'_, T> {
     }
 }
 
-/// Rows are equal where they show the same: their sizes and all pixels are equal. Strides may differ.
+/// Two views are equal if their sizes and all their pixels are equal. Their strides may differ.
 impl<T: PartialEq> PartialEq for RowsRef<'_, T> {
     #[inline]
     fn eq(&self, other: &Self) -> bool {
@@ -155,7 +156,7 @@ impl<'a, T> From<PlaneRef<'a, T>> for RowsRef<'a, T> {
 }
 
 impl<'a, T> RowsRef<'a, T> {
-    /// Returns a double-ended iterator over the rows, from the top. Written by hand.
+    /// Returns a double-ended iterator over the rows, from the top. This method is written by hand.
     #[inline]
     pub fn rows(
         self,
@@ -164,7 +165,7 @@ impl<'a, T> RowsRef<'a, T> {
     }
 }
 
-/// Gives the visible rows, from the top.
+/// Iterates over the visible rows, from the top.
 impl<'a, T> IntoIterator for &'a Plane<T> {
     type Item = &'a [T];
     type IntoIter = Rows<'a, T>;
@@ -175,7 +176,7 @@ impl<'a, T> IntoIterator for &'a Plane<T> {
     }
 }
 
-/// Gives the visible rows for writing, from the top.
+/// Iterates over the visible rows for writing, from the top.
 impl<'a, T> IntoIterator for &'a mut Plane<T> {
     type Item = &'a mut [T];
     type IntoIter = RowsMut<'a, T>;
@@ -186,7 +187,7 @@ impl<'a, T> IntoIterator for &'a mut Plane<T> {
     }
 }
 
-/// Gives the visible rows, from the top.
+/// Iterates over the visible rows, from the top.
 impl<'a, T> IntoIterator for PlaneRef<'a, T> {
     type Item = &'a [T];
     type IntoIter = Rows<'a, T>;
@@ -197,13 +198,13 @@ impl<'a, T> IntoIterator for PlaneRef<'a, T> {
     }
 }
 
-/// Reads the visible pixels of a row by its number.
+/// Returns the visible pixels of the row with this index.
 impl<T> Index<usize> for Plane<T> {
     type Output = [T];
 
     /// # Panics
     ///
-    /// Panics where `y` is not below the height.
+    /// Panics if `y` is not below the height.
     #[track_caller]
     #[inline]
     fn index(&self, y: usize) -> &[T] {
@@ -211,11 +212,11 @@ impl<T> Index<usize> for Plane<T> {
     }
 }
 
-/// Reaches the visible pixels of a row by its number, for writing.
+/// Returns the visible pixels of the row with this index for writing.
 impl<T> IndexMut<usize> for Plane<T> {
     /// # Panics
     ///
-    /// Panics where `y` is not below the height.
+    /// Panics if `y` is not below the height.
     #[track_caller]
     #[inline]
     fn index_mut(&mut self, y: usize) -> &mut [T] {

@@ -1,9 +1,10 @@
-//! Tests of conditions that callers have to meet, for those that no public function tells.
+//! Tests of preconditions that no public function tests.
 //!
-//! Written by hand. `tools/to_rust/conditions.md` names each of them beside the definition that it tells.
+//! This module is written by hand. `tools/to_rust/conditions.md` lists each test with the definition that it implements.
 
-/// Returns whether a rectangle of a size (width, height) that begins at a place (column, row) is inside a picture of a size, and is
-/// not empty: `IsInside` of `v_frame_raster/specs/Geometry.antt`, and `IsInsideTable` of `StridedRows.antt`.
+/// Returns whether a rectangle with the size (width, height) at the position (column, row) is inside a picture of the size
+/// `picture` and not empty. It implements `IsInside` of `v_frame_raster/specs/Geometry.antt` and `IsInsideTable` of
+/// `StridedRows.antt`.
 #[inline]
 pub(crate) fn is_inside(
     place: (usize, usize),
@@ -13,14 +14,14 @@ pub(crate) fn is_inside(
     is_span_inside(place.0, size.0, picture.0) && is_span_inside(place.1, size.1, picture.1)
 }
 
-/// Returns whether so many columns, or rows, from `start` on are some, and end within `count`.
+/// Returns whether `length` columns or rows from `start` on are at least one, and end within `count`.
 #[inline]
 fn is_span_inside(start: usize, length: usize, count: usize) -> bool {
     length > 0 && length <= count && start <= count - length
 }
 
-/// Returns whether a target of a size (width, height) has the size of a source, or that size exchanged: `PlaneFits` of
-/// `v_frame_turn/specs/Frames.antt`.
+/// Returns whether the size (width, height) of a target is that of the source, or that size with width and height exchanged. It
+/// implements `PlaneFits` of `v_frame_turn/specs/Frames.antt`.
 #[inline]
 pub(crate) fn has_turned_size(
     exchanged: bool,

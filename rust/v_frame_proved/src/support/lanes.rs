@@ -1,7 +1,7 @@
-//! Lanes: several numbers side by side, on which an operation works at once.
+//! Lanes: several numbers on which one operation works at once.
 //!
-//! They are arrays, and each operation is a plain loop, of which the compiler makes packed instructions. Sums and products
-//! wrap nowhere, by proof: with overflow checks they would stop the program.
+//! They are arrays, and each operation is a plain loop that the compiler turns into packed instructions. Sums and products
+//! never overflow, which is proved. With overflow checks an overflow would panic.
 
 #![allow(non_camel_case_types)]
 
@@ -10,7 +10,8 @@ use core::sync::atomic::{Ordering, compiler_fence};
 
 /// `N` numbers.
 ///
-/// They are aligned, as otherwise a call passes a few of them as one number, of which the compiler makes no lanes again.
+/// They are aligned. Otherwise a call would pass a few of them as a single number, which the compiler would not turn into lanes
+/// again.
 #[derive(Debug, Clone, Copy)]
 #[repr(align(32))]
 pub struct Simd<T, const N: usize>([T; N]);
@@ -22,26 +23,27 @@ pub type u16x16 = Simd<u16, 16>;
 pub type u32x8 = Simd<u32, 8>;
 pub type f32x8 = Simd<f32, 8>;
 
-/// Keeps the compiler from packing the loop around the lanes, from block to block, in place of them. It is no instruction.
+/// Keeps the compiler from vectorizing the loop around the lanes instead of the lanes themselves. It compiles to no
+/// instruction.
 #[inline(always)]
 fn end_loads() {
     compiler_fence(Ordering::AcqRel);
 }
 
-/// A number that fits lanes.
+/// A number that can be a lane.
 pub trait Lane: Copy + Default {}
 
 impl Lane for f32 {}
 
-/// A whole number that fits lanes.
+/// An integer that can be a lane.
 pub trait Whole: Lane + Ord {
-    /// Returns the distance of two numbers.
+    /// Returns the absolute difference of two numbers.
     fn distance(self, other: Self) -> Self;
 }
 
-/// A number that another one is made of.
+/// A number that can be converted from another type.
 pub trait CastFrom<T>: Lane {
-    /// Returns the number, which fits by proof.
+    /// Converts the number, which fits. That is proved.
     fn cast_from(number: T) -> Self;
 }
 
@@ -52,7 +54,8 @@ macro_rules! lanes_of {
         impl Whole for $number {
             #[inline(always)]
             fn distance(self, other: Self) -> Self {
-                // Of `abs_diff` squares are made in lanes of the wide type: of bytes that takes more than twice as long.
+                // With `abs_diff`, the compiler computes squares in lanes of the wide type, which takes more than twice as long
+                // for bytes.
                 self.max(other) - self.min(other)
             }
         }
@@ -131,12 +134,12 @@ impl<T: Lane + Neg<Output = T>, const N: usize> Neg for Simd<T, N> {
     }
 }
 
-/// A choice for each lane.
+/// A boolean for each lane.
 #[derive(Debug, Clone, Copy)]
 pub struct Mask<const N: usize>([bool; N]);
 
 impl<const N: usize> Mask<N> {
-    /// Returns the numbers of the one where the mask says so, and else those of the other.
+    /// Returns the numbers of `one` in the lanes that the mask selects, and those of `other` in the rest.
     #[inline(always)]
     pub fn select<T: Lane>(self, one: Simd<T, N>, mut other: Simd<T, N>) -> Simd<T, N> {
         for lane in 0..N {
@@ -153,7 +156,7 @@ impl<T: Lane, const N: usize> Simd<T, N> {
         let numbers = &numbers[..N];
         let mut lanes = [T::default(); N];
         if N == 8 {
-            // One by one: eight bytes that are copied at once are one number, too.
+            // Number by number: a copy of eight bytes at once would be a single number to the compiler.
             lanes[0] = numbers[0];
             lanes[1] = numbers[1];
             lanes[2] = numbers[2];
@@ -168,7 +171,7 @@ impl<T: Lane, const N: usize> Simd<T, N> {
         Simd(lanes)
     }
 
-    /// Returns the same number in each lane.
+    /// Returns lanes that all have the same number.
     #[inline(always)]
     pub fn splat(number: T) -> Self {
         Simd([number; N])
@@ -180,13 +183,13 @@ impl<T: Lane, const N: usize> Simd<T, N> {
         self.0
     }
 
-    /// Makes the first `N` numbers of a slice those of the lanes.
+    /// Copies the numbers to the first `N` entries of a slice.
     #[inline(always)]
     pub fn copy_to_slice(self, numbers: &mut [T]) {
         numbers[..N].copy_from_slice(&self.0);
     }
 
-    /// Returns the same numbers in lanes of another width.
+    /// Converts the numbers to another type.
     #[inline(always)]
     pub fn cast<U: CastFrom<T>>(self) -> Simd<U, N> {
         let mut lanes = [U::default(); N];
@@ -198,7 +201,7 @@ impl<T: Lane, const N: usize> Simd<T, N> {
 }
 
 impl<T: Whole, const N: usize> Simd<T, N> {
-    /// Returns the distances lane by lane.
+    /// Returns the absolute differences lane by lane.
     #[inline(always)]
     pub fn abs_diff(mut self, other: Self) -> Self {
         for lane in 0..N {
@@ -208,7 +211,7 @@ impl<T: Whole, const N: usize> Simd<T, N> {
         self
     }
 
-    /// Returns where the numbers are at least the others.
+    /// Returns the lanes whose number is at least that of `other`.
     #[inline(always)]
     pub fn simd_ge(self, other: Self) -> Mask<N> {
         let mut lanes = [false; N];
@@ -220,7 +223,7 @@ impl<T: Whole, const N: usize> Simd<T, N> {
 }
 
 impl<T: Lane + Add<Output = T>, const N: usize> Simd<T, N> {
-    /// Returns the sum of the lanes, which is not too large, by proof.
+    /// Returns the sum of the lanes. It does not overflow, which is proved.
     #[inline(always)]
     pub fn strict_reduce_sum(self) -> T {
         let mut sum = T::default();
@@ -232,7 +235,7 @@ impl<T: Lane + Add<Output = T>, const N: usize> Simd<T, N> {
 }
 
 impl Simd<u16, 8> {
-    /// Returns the numbers whose bytes these are, low byte first.
+    /// Returns the numbers with these bytes, in little-endian order.
     #[inline(always)]
     pub fn from_le_bytes(bytes: u8x16) -> Self {
         let mut lanes = [0; 8];
@@ -244,7 +247,7 @@ impl Simd<u16, 8> {
 }
 
 impl Simd<u16, 16> {
-    /// Returns the numbers whose bytes these are, low byte first.
+    /// Returns the numbers with these bytes, in little-endian order.
     #[inline(always)]
     pub fn from_le_bytes(bytes: u8x32) -> Self {
         let mut lanes = [0; 16];
@@ -255,7 +258,7 @@ impl Simd<u16, 16> {
         Simd(lanes)
     }
 
-    /// Returns the bytes of the numbers, low byte first.
+    /// Returns the bytes of the numbers, in little-endian order.
     #[inline(always)]
     pub fn to_le_bytes(self) -> u8x32 {
         let mut lanes = [0; 32];
@@ -269,7 +272,7 @@ impl Simd<u16, 16> {
 }
 
 impl Simd<u32, 8> {
-    /// Returns the numbers whose bytes these are, low byte first.
+    /// Returns the numbers with these bytes, in little-endian order.
     #[inline(always)]
     pub fn from_le_bytes(bytes: u8x32) -> Self {
         let mut lanes = [0; 8];

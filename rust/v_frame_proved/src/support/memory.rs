@@ -1,10 +1,10 @@
-//! Rust's own `Vec` and `String`, grown by calls that return an error where memory is refused.
+//! Methods for `Vec` and `String` of `alloc` that return an error if a memory allocation fails.
 
 use alloc::string::String;
 use alloc::vec::Vec;
 use core::fmt;
 
-/// A request for memory was refused.
+/// The error of a failed memory allocation.
 #[derive(Debug, Clone, Copy, PartialEq, Eq, Hash)]
 pub struct AllocError;
 
@@ -16,7 +16,7 @@ impl fmt::Display for AllocError {
 
 impl core::error::Error for AllocError {}
 
-/// What a `String` is appended to fails with: its only cause is a request that was refused.
+/// Formatting into a `String` fails only if a memory allocation fails.
 impl From<fmt::Error> for AllocError {
     #[inline]
     fn from(_refused: fmt::Error) -> Self {
@@ -32,15 +32,15 @@ impl From<AllocError> for std::io::Error {
     }
 }
 
-/// Returns nothing where a `Vec` has room for so many items more.
+/// Reserves capacity for `more` additional items.
 #[inline]
 fn reserve<T>(items: &mut Vec<T>, more: usize) -> Result<(), AllocError> {
     items.try_reserve(more).map_err(|_| AllocError)
 }
 
-/// Appends an item of a list, or a character of a text.
+/// Appends an item to a list, or a character to a text.
 pub trait TryPush<T> {
-    /// Appends it.
+    /// Appends `item`.
     fn try_push(&mut self, item: T) -> Result<(), AllocError>;
 }
 
@@ -62,22 +62,22 @@ impl TryPush<char> for String {
     }
 }
 
-/// Lists that are made and grown.
+/// Creates and extends lists.
 pub trait TryVec<T>: Sized {
-    /// Returns an empty list with room for so many items.
+    /// Returns an empty list with capacity for `count` items.
     fn with_room_for(count: usize) -> Result<Self, AllocError>;
 
-    /// Returns a list of these items.
+    /// Returns a list of copies of `items`.
     fn try_from_slice(items: &[T]) -> Result<Self, AllocError>
     where
         T: Copy;
 
-    /// Appends these items.
+    /// Appends copies of `items`.
     fn try_extend_from_slice(&mut self, items: &[T]) -> Result<(), AllocError>
     where
         T: Copy;
 
-    /// Makes the list so long, by copies of an item where it is shorter.
+    /// Sets the length to `count`, appending copies of `item` if the list is shorter.
     fn try_resize(&mut self, count: usize, item: T) -> Result<(), AllocError>
     where
         T: Copy;
@@ -122,7 +122,7 @@ impl<T> TryVec<T> for Vec<T> {
     }
 }
 
-/// Returns a list of so many copies of an item.
+/// Returns a list of `count` copies of `item`.
 #[inline]
 pub fn repeated<T: Copy>(item: T, count: usize) -> Result<Vec<T>, AllocError> {
     let mut list = Vec::with_room_for(count)?;
@@ -130,9 +130,9 @@ pub fn repeated<T: Copy>(item: T, count: usize) -> Result<Vec<T>, AllocError> {
     Ok(list)
 }
 
-/// Items of an iterator as a list.
+/// Collects the items of an iterator into a list.
 pub trait TryCollect: Iterator + Sized {
-    /// Returns the items that are left.
+    /// Returns the remaining items.
     fn try_collect_vec(self) -> Result<Vec<Self::Item>, AllocError>;
 }
 
@@ -147,15 +147,15 @@ impl<I: Iterator> TryCollect for I {
     }
 }
 
-/// Texts that are made and grown.
+/// Creates and extends texts.
 pub trait TryString: Sized {
-    /// Returns a text of these characters.
+    /// Returns a copy of `text`.
     fn try_from_str(text: &str) -> Result<Self, AllocError>;
 
-    /// Appends these characters.
+    /// Appends `text`.
     fn try_push_str(&mut self, text: &str) -> Result<(), AllocError>;
 
-    /// Appends what `write!` is given.
+    /// Appends formatted text, as `write!` does.
     fn write_fmt(&mut self, arguments: fmt::Arguments<'_>) -> Result<(), AllocError>;
 }
 
@@ -180,7 +180,7 @@ impl TryString for String {
     }
 }
 
-/// A text as the target of `write!`, which says where memory was refused.
+/// A text as the target of `write!` that reports failed memory allocations.
 struct Growing<'a>(&'a mut String);
 
 impl fmt::Write for Growing<'_> {
@@ -189,9 +189,9 @@ impl fmt::Write for Growing<'_> {
     }
 }
 
-/// Values as texts.
+/// Converts values to texts.
 pub trait TryToString {
-    /// Returns the text that shows the value.
+    /// Returns the displayed text of the value.
     fn try_to_string(&self) -> Result<String, AllocError>;
 }
 
@@ -202,7 +202,7 @@ impl<T: fmt::Display> TryToString for T {
     }
 }
 
-/// Returns the text that `format!` would make.
+/// Returns the text that `format!` would return.
 #[inline]
 pub fn try_format(arguments: fmt::Arguments<'_>) -> Result<String, AllocError> {
     let mut text = String::new();
@@ -210,7 +210,7 @@ pub fn try_format(arguments: fmt::Arguments<'_>) -> Result<String, AllocError> {
     Ok(text)
 }
 
-/// Requests that no memory can meet, so that nothing has to refuse them.
+/// Tests requests that exceed every memory, so that they fail without special preparation.
 #[cfg(test)]
 mod tests {
     use super::{AllocError, TryCollect, TryPush, TryVec, repeated};
@@ -226,7 +226,7 @@ mod tests {
         let mut numbers = vec![7_u16, 8, 9];
         assert_eq!(numbers.try_resize(most, 0), Err(AllocError));
         assert_eq!(numbers, [7, 8, 9]);
-        // No entry of this list takes memory, and it has no place for one more.
+        // The entries of this list take no memory, and its length is at the maximum.
         let mut full = vec![(); most];
         assert_eq!(full.try_push(()), Err(AllocError));
         assert_eq!(full.try_extend_from_slice(&[()]), Err(AllocError));

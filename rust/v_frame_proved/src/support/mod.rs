@@ -1,4 +1,5 @@
-//! What Rattle's `std` has and Rust's has otherwise: memory that can be refused, lanes, and conversions of numbers.
+//! Counterparts of items of Rattle's standard library that differ from Rust's: fallible memory allocation, lanes, and
+//! conversions of numbers.
 
 #[cfg(feature = "std")]
 pub mod buffered;

@@ -1,13 +1,13 @@
-//! A call that breaks one condition, and what is reported of it.
+//! A call that violates a precondition, and the panic that it causes.
 
 use std::panic;
 use std::sync::Mutex;
 
-/// A call that breaks one condition of a function.
+/// A call that violates a precondition of a function.
 pub struct Case {
-    /// The path of the function, with types where the compiler needs them.
+    /// The path of the function, with types if the compiler needs them.
     pub function: &'static str,
-    /// A part of what is reported, with the numbers of the call.
+    /// A part of the panic message, with the numbers of the call.
     pub message: &'static str,
     /// The file and the line of the call.
     pub place: (&'static str, u32),
@@ -15,7 +15,7 @@ pub struct Case {
     pub call: fn(),
 }
 
-/// Makes a case of a function, a part of its message, and arguments. The call stands at the line where the case begins.
+/// Defines a case from a function, a part of its message, and arguments. The call is reported at the line of the case.
 macro_rules! case {
     ($function:path, $message:literal, $($argument:expr),+ $(,)?) => {
         Case {
@@ -31,17 +31,17 @@ macro_rules! case {
 
 pub(crate) use case;
 
-/// What a panic reports.
+/// The report of a panic.
 pub struct Report {
     pub message: String,
-    /// The file and the line that it names.
+    /// The file and the line in the report.
     pub place: (String, u32),
 }
 
-/// The place of the last panic, from the hook.
+/// The place of the last panic, set by the hook.
 static PLACE: Mutex<Option<(String, u32)>> = Mutex::new(None);
 
-/// Makes the calls, and returns what is reported of each that is stopped. No other thread may panic meanwhile.
+/// Makes the calls, and returns the report of each one that panics. No other thread may panic at the same time.
 pub fn reports(cases: &[&Case]) -> Vec<Option<Report>> {
     let hook = panic::take_hook();
     panic::set_hook(Box::new(|info| {

@@ -1,4 +1,4 @@
-//! Colors from luma and chroma, and back.
+//! Conversions between YUV and RGB.
 
 use crate::case::{Case, case};
 use crate::pictures::{plane, rows, to_rgb, to_rgb_exactly, to_yuv};

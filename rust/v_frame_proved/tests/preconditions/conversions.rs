@@ -1,4 +1,4 @@
-//! Bit depths, ranges, chroma and fixed ratios.
+//! Conversions of bit depths, ranges, chroma and fixed ratios.
 
 use crate::case::{Case, case};
 use crate::pictures::{frame, frame_of_small_chroma, plane, rows, words};

@@ -1,4 +1,4 @@
-//! Chroma in one plane or in two, and samples in the top bits.
+//! Interleaved chroma, and samples in the top bits.
 
 use crate::case::{Case, case};
 use crate::pictures::{plane, rows, words};

@@ -1,5 +1,5 @@
-//! Conditions on what is given to public functions, each broken once: the call is stopped at the caller's line, and the
-//! message has the numbers.
+//! Preconditions of public functions, each violated once: the call panics at the caller's line, and the message contains the
+//! numbers.
 
 #![cfg(feature = "std")]
 
@@ -19,19 +19,20 @@ use sources::{asserting_functions, is_made_from};
 use std::collections::BTreeSet;
 use std::sync::LazyLock;
 
-/// Functions with assertions that no call of a test can break, and how many of them.
+/// Functions with assertions that no call in a test can violate, and the number of these assertions.
 const UNBREAKABLE: [(&str, usize); 3] = [
-    // A plane whose width or height is 2^62 has no buffer, so there is none.
+    // A plane cannot have a width or a height of 2^62, since no buffer is large enough.
     ("resize::resize_nearest", 4),
-    // Two of the sizes would have a product of 2^64, or the source 2^48 pixels: buffers of 2^32 bytes at least.
+    // The product of two sizes would have to be 2^64, or the source would have 2^48 pixels. Both need buffers of at least 2^32
+    // bytes.
     ("resize::resize_area", 1),
     ("resize::rows::resize_area", 1),
 ];
 
-/// Functions that are written by hand, and pass on where they are called.
+/// Functions that are written by hand and report the caller's line.
 const BY_HAND: [&str; 2] = ["Index::index", "IndexMut::index_mut"];
 
-/// All cases, and what is reported of each.
+/// All cases, with the report of each.
 static REPORTED: LazyLock<Vec<(&Case, Option<Report>)>> = LazyLock::new(|| {
     let tables = [
         colors::CASES,
@@ -47,7 +48,7 @@ static REPORTED: LazyLock<Vec<(&Case, Option<Report>)>> = LazyLock::new(|| {
     cases.into_iter().zip(reports).collect()
 });
 
-/// Returns what is wrong with a report, if something is.
+/// Returns what is wrong with a report, if anything is.
 fn fault(case: &Case, report: Option<&Report>) -> Option<String> {
     let Some(Report { message, place: (file, line) }) = report else {
         return Some("is not stopped".to_string());
@@ -92,7 +93,7 @@ fn no_assertion_is_left_out() {
         let is_broken = |text: &&String| messages.iter().any(|message| is_made_from(message, text));
         let unbroken: Vec<_> = asserting.messages.iter().filter(|text| !is_broken(text)).collect();
         assert_eq!(unbroken.len(), left, "{} is not stopped by: {unbroken:?}", asserting.function);
-        // Several assertions of a function may have one text.
+        // Several assertions of a function may have the same message.
         assert!(messages.len() + left >= asserting.messages.len(), "{} has too few cases", asserting.function);
     }
     let asserts = |name: &str| functions.iter().any(|asserting| asserting.function == name);

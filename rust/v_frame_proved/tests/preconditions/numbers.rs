@@ -1,4 +1,4 @@
-//! Measures, statistics and sizes.
+//! Measures, statistics and resizing.
 
 use crate::case::{Case, case};
 use crate::pictures::{LONG, frame, plane, rows, rows_of_nothing, rows_of_words, words};

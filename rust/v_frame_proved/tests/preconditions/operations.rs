@@ -1,4 +1,4 @@
-//! Changes, comparisons and composition.
+//! Changes, comparisons and blends.
 
 use crate::case::{Case, case};
 use crate::pictures::{geometry, plane, rows, words};

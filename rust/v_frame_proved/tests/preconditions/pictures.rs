@@ -1,4 +1,4 @@
-//! Small pictures, and what else functions are given.
+//! Small pictures, and other arguments of the calls.
 
 use v_frame_proved::chroma::ChromaSubsampling::{self, Yuv420};
 use v_frame_proved::frame::{Frame, FrameBuilder};
@@ -8,15 +8,15 @@ use v_frame_proved::sequence::Sequence;
 use v_frame_proved::streams::{Place, Source};
 use v_frame_proved::y4m::{StreamHeader, parse_header};
 
-/// A size that a picture of something has not.
+/// A size that no picture with pixels of at least one byte can have.
 pub const LONG: usize = 1 << 62;
 
-/// Returns a geometry without a border.
+/// Returns a geometry without padding.
 pub fn geometry(width: usize, height: usize) -> PlaneGeometry {
     PlaneGeometry::unpadded(width, height, 1, 1).expect("a geometry")
 }
 
-/// Returns a geometry that no buffer can have: of 2^64 pixels.
+/// Returns a geometry of 2^64 pixels, for which no buffer is large enough.
 pub fn too_large() -> PlaneGeometry {
     geometry(1 << 32, 1 << 32)
 }
@@ -25,7 +25,7 @@ pub fn plane(width: usize, height: usize) -> Plane<u8> {
     Plane::new(geometry(width, height)).expect("memory")
 }
 
-/// Returns a plane of pixels of two bytes.
+/// Returns a plane of 16-bit pixels.
 pub fn words(width: usize, height: usize) -> Plane<u16> {
     Plane::new(geometry(width, height)).expect("memory")
 }
@@ -38,12 +38,12 @@ pub fn rows(width: usize, height: usize) -> RowsRef<'static, u8> {
     RowsRef::new(&[0; 100], width, height, width).expect("rows")
 }
 
-/// Returns rows of pixels of two bytes.
+/// Returns rows of 16-bit pixels.
 pub fn rows_of_words(width: usize, height: usize) -> RowsRef<'static, u16> {
     RowsRef::new(&[0; 100], width, height, width).expect("rows")
 }
 
-/// Returns rows of pixels without bytes, as long or as many as `LONG`.
+/// Returns rows of zero-sized pixels. Their width or their number may be `LONG`.
 pub fn rows_of_nothing(width: usize, height: usize) -> RowsRef<'static, ()> {
     RowsRef::new(&[(); LONG], width, height, width).expect("rows")
 }
@@ -52,7 +52,7 @@ pub fn frame(width: usize, height: usize, format: ChromaSubsampling) -> Frame<u8
     FrameBuilder::new(width, height, format, 8).build().expect("a frame")
 }
 
-/// Returns a frame of 4 by 4 in `Yuv420`, a plane of which has another size than the format says.
+/// Returns a frame of 4 by 4 pixels in `Yuv420`. One of its planes does not have the size that the format requires.
 pub fn frame_of_small_chroma() -> Frame<u8> {
     Frame { v_plane: Some(plane(2, 1)), ..frame(4, 4, Yuv420) }
 }
@@ -78,7 +78,7 @@ pub fn header_with_a_space() -> StreamHeader {
     StreamHeader { extensions: vec![extension].into(), ..parse_header(b"YUV4MPEG2 W4 H3").expect("a header") }
 }
 
-/// Returns a stream of a header.
+/// Returns a stream with this header.
 pub fn stream(header: &[u8]) -> Source<&[u8]> {
     Source::y4m(Place::First, header).expect("a header")
 }

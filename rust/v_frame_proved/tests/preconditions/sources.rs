@@ -1,17 +1,17 @@
-//! The assertions of public functions, as the sources of the crate have them.
+//! Finds the assertions of public functions in the sources of the crate.
 
 use std::fs;
 use std::path::{Path, PathBuf};
 
-/// A public function that asserts.
+/// A public function with assertions.
 pub struct Asserting {
     /// Its public path.
     pub function: String,
-    /// The texts of its assertions, with names in braces.
+    /// The messages of its assertions, with names in braces.
     pub messages: Vec<String>,
 }
 
-/// Returns the functions of all generated sources.
+/// Returns the functions with assertions in all generated sources.
 pub fn asserting_functions() -> Vec<Asserting> {
     let root = Path::new(env!("CARGO_MANIFEST_DIR")).join("src/generated");
     let mut files = Vec::new();
@@ -30,7 +30,7 @@ fn collect_files(folder: &Path, files: &mut Vec<PathBuf>) {
     }
 }
 
-/// Returns the public module of a file: `ops::rows` of `v_frame_ops/rows/change.rs`.
+/// Returns the public module of a file, such as `ops::rows` for `v_frame_ops/rows/change.rs`.
 fn module_of(file: &Path) -> String {
     let parts: Vec<_> = file.iter().map(|part| part.to_str().expect("text")).collect();
     let module = match (parts[0], parts[1]) {
@@ -41,7 +41,7 @@ fn module_of(file: &Path) -> String {
     if matches!(parts[1], "rows" | "rows.rs") { format!("{module}::rows") } else { module.to_string() }
 }
 
-/// Returns the public functions of a file that assert. Their panics are reported at the caller's line.
+/// Returns the public functions with assertions in a file. Their panics are reported at the caller's line.
 fn functions_of(module: &str, file: &Path) -> Vec<Asserting> {
     let text = fs::read_to_string(file).expect("a source");
     let lines: Vec<&str> = text.lines().collect();
@@ -66,14 +66,14 @@ fn functions_of(module: &str, file: &Path) -> Vec<Asserting> {
     found
 }
 
-/// Returns the type of the first line of an `impl`, without its parameters.
+/// Returns the type in the first line of an `impl`, without its parameters.
 fn type_of(line: &str) -> &str {
     let line = line.trim_start_matches("impl").trim_end_matches('{').trim();
     let own = line.rsplit_once("> ").map_or(line, |(_, own)| own);
     own.split('<').next().unwrap_or(own)
 }
 
-/// Returns the texts of the assertions of the function that begins here.
+/// Returns the messages of the assertions of the function that begins here.
 fn messages_of(lines: &[&str]) -> Vec<String> {
     let margin = lines[0].len() - lines[0].trim_start().len();
     let end = format!("{}}}", " ".repeat(margin));
@@ -81,12 +81,12 @@ fn messages_of(lines: &[&str]) -> Vec<String> {
     lines[..length].join("\n").split(" assert!(").skip(1).map(message_of).collect()
 }
 
-/// Returns the text of an assertion.
+/// Returns the message of an assertion.
 fn message_of(assertion: &str) -> String {
     assertion.split('"').nth(1).expect("each assertion has a text").to_string()
 }
 
-/// Returns whether a message is made from such a text: what stands between the braces may be anything.
+/// Returns whether `message` is an instance of the pattern `text`, in which braces stand for any text.
 pub fn is_made_from(message: &str, text: &str) -> bool {
     let mut pieces = text.split('{').map(|piece| piece.split_once('}').map_or(piece, |(_, behind)| behind));
     let Some(mut rest) = pieces.next().and_then(|first| message.strip_prefix(first)) else {

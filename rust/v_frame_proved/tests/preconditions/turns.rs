@@ -1,4 +1,4 @@
-//! Flips and quarter turns.
+//! Flips and rotations.
 
 use crate::case::{Case, case};
 use crate::pictures::{plane, rows};

@@ -1,5 +1,5 @@
-//! Which streams are opened and which frames a picture takes, and the cause that an error keeps: what this call met, and not an
-//! earlier one.
+//! Streams that are opened, frames that fit a picture, and the cause in an error, which must come from the same call and not
+//! from an earlier one.
 
 use crate::stepping::{Step, Stepping};
 use crate::{FIRST_FRAME, SMALL};
@@ -11,14 +11,14 @@ use v_frame_proved::semi_planar::SemiPlanarFormat;
 use v_frame_proved::streams::{Picture, Place, Problem, Source, StreamError};
 use v_frame_proved::y4m::{Color, StreamHeader, Y4mError};
 
-/// Returns a stream of this header line.
+/// Returns a stream with this header line.
 fn source(line: &str) -> Source<&[u8]> {
     Source::y4m(Place::First, line.as_bytes()).expect("a header")
 }
 
 #[test]
 fn an_earlier_failure_is_not_the_cause() {
-    // A read fails inside the first frame. The bytes after it are no line of a frame.
+    // A read fails inside the first frame. The bytes after it are not a valid line.
     let steps = [Step::Take(FIRST_FRAME + 9), Step::Fail(ErrorKind::TimedOut), Step::Take(usize::MAX)];
     let reader = Stepping::new(SMALL, &steps, usize::MAX);
     let mut source = Source::y4m(Place::First, reader).expect("a header");

@@ -1,11 +1,11 @@
-//! Copies that give up: what was counted, told and written by then.
+//! Copies that fail: the frames that were counted, reported and written before.
 
 use std::io::{self, ErrorKind, Write};
 use v_frame_proved::formats::VideoFormat;
 use v_frame_proved::streams::{Container, CopyOptions, Place, Problem, Progress, Rectangle, Sink, Source, StreamError};
 use v_frame_proved::streams::copy_stream;
 
-/// Takes so many bytes, and fails then.
+/// A writer that accepts a number of bytes and then fails.
 #[derive(Debug)]
 struct Room(usize);
 
@@ -24,7 +24,7 @@ impl Write for Room {
     }
 }
 
-/// Keeps the last number that it is told.
+/// Keeps the last number that was reported.
 struct Told(u64);
 
 impl Progress for Told {
@@ -33,8 +33,8 @@ impl Progress for Told {
     }
 }
 
-/// Returns how a copy into so much room ends: its error, how many frames were read and written, the last number told, and the
-/// room that is left.
+/// Returns the result of a copy to a writer that accepts `room` bytes: its error, the number of frames read and written, the
+/// last number reported, and the number of bytes that are still accepted.
 fn stopped(line: &str, frames: usize, container: Container, options: &CopyOptions, room: usize) -> (StreamError, [u64; 3], usize) {
     let header = format!("YUV4MPEG2 {line}\n");
     let len = Source::y4m(Place::First, header.as_bytes()).expect("a header").frame_len();
@@ -53,8 +53,8 @@ fn frames_that_were_written_are_counted() {
     let part = Rectangle { x: 2, y: 0, width: 2, height: 2 };
     let cropped = CopyOptions { crop: Some(part), ..CopyOptions::new() };
     let skipping = CopyOptions { skip: 2, ..CopyOptions::new() };
-    // Options, room for two frames and a part of the third, how many were read. A frame that is moved is counted at its end, and
-    // one of which another is made where it was read.
+    // The options, the number of bytes of two frames and a part of the third, and the number of frames read. A frame that is
+    // copied unchanged is counted after its last byte, and a frame that is edited after it was read.
     let cases = [(&plain, 2 * 24 + 5, 2), (&format("nv12"), 2 * 24 + 23, 3), (&cropped, 2 * 6 + 1, 3), (&skipping, 2 * 24 + 1, 4)];
     for (options, room, read) in cases {
         let (error, counts, left) = stopped("W8 H2 F25:1 C420jpeg", 9, Container::Raw, options, room);

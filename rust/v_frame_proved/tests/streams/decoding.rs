@@ -17,7 +17,7 @@ fn copied(stream: impl Read) -> Result<Vec<u8>, StreamError> {
     encoder.finish()
 }
 
-/// The same through one frame.
+/// Reads a stream and writes it again, with one reused frame.
 fn copied_through_one_frame(stream: impl Read) -> Result<Vec<u8>, StreamError> {
     let mut decoder = Decoder::new(stream)?;
     let mut encoder = Encoder::new(Vec::new(), decoder.header().clone())?;
@@ -30,7 +30,7 @@ fn copied_through_one_frame(stream: impl Read) -> Result<Vec<u8>, StreamError> {
 
 #[test]
 fn files_of_ffmpeg_are_read_and_written_as_the_same_bytes() {
-    // Size, format, depth, frames, and the sum of the first luma plane.
+    // The size, the format, the bit depth, the number of frames, and the sum of the first luma plane.
     type File<'a> = (&'a [u8], (usize, usize), ChromaSubsampling, u8, usize, u64);
     let files: [File<'_>; 9] = [
         (include_bytes!("../data/411_35x27.y4m"), (35, 27), Yuv411, 8, 2, 67819),
@@ -177,13 +177,13 @@ fn lines_that_are_not_due_are_refused() {
 
 #[test]
 fn a_header_takes_no_room_for_frames_that_do_not_come() {
-    // Of a terabyte a frame.
+    // Each frame has a terabyte.
     let stream = &b"YUV4MPEG2 W1048576 H1048576 Cmono\nFRAME\nabc"[..];
     let error = Decoder::new(stream).unwrap().next().unwrap().unwrap_err();
     assert!(matches!(error, StreamError::Truncated { expected: 0x100_0000_0000, found: 3 }));
 }
 
-/// A reader that notes into which buffer large reads go, and what stands there.
+/// A reader that records the address of the buffer for each large read, and a byte of its contents.
 struct Noting<'a> {
     stream: &'a [u8],
     notes: Vec<(usize, u8)>,
@@ -209,7 +209,7 @@ fn all_frames_go_through_one_buffer_that_is_not_cleared() {
     assert_eq!(Decoder::new(&mut reader).unwrap().count(), 4);
     let place = reader.notes[0].0;
     assert_eq!(reader.notes, [(place, 0), (place, 1), (place, 2), (place, 3)]);
-    // A frame that is larger than the room at first.
+    // A frame that is larger than the first allocation.
     let mut stream = b"YUV4MPEG2 W2048 H1500 Cmono\nFRAME\n".to_vec();
     stream.extend((0..2048 * 1500).map(|i| (i % 251) as u8));
     assert_eq!(copied(Stepping::new(&stream[..], &[Step::Take(300_000)], usize::MAX)).unwrap(), stream);
@@ -225,7 +225,7 @@ fn nothing_after_a_frame_is_read_with_it() {
     assert_eq!(copied(decoder.into_inner()).unwrap(), SMALL);
 }
 
-/// A reader that comes to its end, and gives more where it is asked again, as a terminal does.
+/// A reader that returns its end once, and more bytes if it is called again, as a terminal does.
 struct Resuming<'a> {
     before: &'a [u8],
     after: &'a [u8],
@@ -253,7 +253,7 @@ fn a_stream_that_has_ended_stays_ended() {
     assert!(!decoder.read_into(&mut frame).unwrap());
 }
 
-/// A reader that keeps the length of the largest buffer that it was given.
+/// A reader that records the length of the largest buffer that it was given.
 struct Measuring<'a> {
     stream: &'a [u8],
     largest: usize,

@@ -1,4 +1,4 @@
-//! Streams that are written, and frames that are none of a stream.
+//! Streams that are written, and frames that do not match the stream.
 
 use super::SMALL;
 use super::stepping::{Step, Stepping, cause, patient_steps};
@@ -12,7 +12,7 @@ fn blank(width: usize, height: usize, format: ChromaSubsampling) -> Frame<u8> {
     FrameBuilder::new(width, height, format, 8).luma_padding_left(8).build().unwrap()
 }
 
-/// Returns frames that are none of a stream of 8 bits, 4 by 2 pixels of 4:2:0.
+/// Returns frames that do not match a 4:2:0 stream of 4 by 2 pixels with 8 bits.
 fn other_frames() -> Vec<VideoFrame> {
     let deep = FrameBuilder::new(4, 2, Yuv420, 10).build::<u16>().unwrap();
     let mut wide_pixels = deep.clone();
@@ -151,7 +151,7 @@ fn patient_writers_get_all_and_others_the_beginning() {
     let mut full = Stepping::new(Vec::new(), &[Step::Take(0)], usize::MAX);
     let error = write(&mut full).unwrap_err();
     assert!(matches!(error, StreamError::Io(cause) if cause.kind() == ErrorKind::WriteZero));
-    // All is written, and the flush fails.
+    // All bytes are written, and the flush fails.
     let mut writer = Stepping::new(Vec::new(), &[Step::Take(usize::MAX)], SMALL.len());
     assert_eq!(cause(&write(&mut writer).unwrap_err()).unwrap(), "the cable is out");
     assert_eq!(writer.inner, SMALL);

@@ -1,4 +1,4 @@
-//! One frame of a stream behind others, and a part of it.
+//! A frame of a stream after skipped ones, and crops of it.
 
 use crate::SMALL;
 use v_frame_proved::chroma::ChromaSubsampling::{Monochrome, Yuv411, Yuv420, Yuv422, Yuv444};
@@ -7,7 +7,7 @@ use v_frame_proved::frame::{Frame, FrameBuilder};
 use v_frame_proved::plane::{Plane, PlaneGeometry};
 use v_frame_proved::streams::{Picture, Place, Problem, Rectangle, Source, check_crop, crop_frame};
 
-/// Returns a frame whose pixels are numbered, in a border of nines.
+/// Returns a frame whose pixels are numbered, with nines in the padding.
 fn numbered(format: v_frame_proved::chroma::ChromaSubsampling) -> Frame<u8> {
     let builder = FrameBuilder::new(8, 4, format, 8).luma_padding_left(4).luma_padding_top(2);
     let mut frame = builder.build::<u8>().expect("a frame");
@@ -39,7 +39,8 @@ fn parts_of_frames_are_the_crops_by_hand() {
             }
         }
     }
-    // Of 36 ranges of columns and 10 of rows: those that begin at each column or row, at every other one, or at every fourth one.
+    // There are 36 ranges of columns and 10 ranges of rows. The sums count the ranges that begin at every column or row, at
+    // every second one, or at every fourth one.
     assert_eq!(taken, 2 * 36 * 10 + 20 * 6 + 20 * 10 + 12 * 10);
 }
 
@@ -86,7 +87,7 @@ fn parts_of_pictures_are_sought_in_the_header() {
     assert!(matches!(checked(2, 1, 2, 2).unwrap_err().problem, Problem::CropMisaligned { columns: 2, rows: 2 }));
 }
 
-/// Returns what is read of SMALL behind so many frames, which bytes it has, and how many frames were counted.
+/// Skips `before` frames of SMALL and reads one. Returns the result, the bytes of the frame, and the number of frames counted.
 fn read_behind(bytes: &[u8], before: u64) -> (Result<bool, String>, Vec<u8>, u64) {
     let mut source = Source::y4m(Place::First, bytes).expect("a header");
     let mut picture = Picture::<u8>::new(&source, 3).expect("memory");

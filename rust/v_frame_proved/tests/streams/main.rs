@@ -1,5 +1,5 @@
-//! Streams read by `y4m::Decoder` and written by `y4m::Encoder`, over readers and writers that behave and that don't; pictures of
-//! `streams::Source`, and what its errors keep.
+//! Streams that `y4m::Decoder` reads and `y4m::Encoder` writes, with regular and irregular readers and writers, pictures of
+//! `streams::Source`, and the contents of its errors.
 #![cfg(feature = "std")]
 
 mod causes;
@@ -9,8 +9,8 @@ mod encoding;
 mod frames;
 mod stepping;
 
-/// A small stream: 8 bits, 3 by 1 pixels of 4:2:0, so 7 bytes a frame.
+/// A small stream: 3 by 1 pixels in 8-bit 4:2:0, which are 7 bytes for each frame.
 pub const SMALL: &[u8] = b"YUV4MPEG2 W3 H1 F25:1 C420jpeg\nFRAME\nabcdefgFRAME\nhijklmnFRAME\nopqrstu";
 
-/// Where the first byte of SMALL after its header is.
+/// The position of the first byte of SMALL after its header.
 pub const FIRST_FRAME: usize = 31;

@@ -1,19 +1,19 @@
-//! Readers and writers that do as they are told.
+//! Readers and writers with a given behavior.
 
 use std::error::Error;
 use std::io::{self, ErrorKind, Read, Write};
 use v_frame_proved::y4m::StreamError;
 
-/// What a reader or a writer does in one call.
+/// The behavior of a reader or a writer in one call.
 #[derive(Clone, Copy)]
 pub enum Step {
-    /// Takes at most so many bytes.
+    /// It accepts or returns at most this number of bytes.
     Take(usize),
-    /// Fails by this kind.
+    /// It fails with an error of this kind.
     Fail(ErrorKind),
 }
 
-/// A reader or a writer that takes its steps in turn, again and again, and fails for good after so many bytes.
+/// A reader or a writer that repeats a list of steps, and fails permanently after a number of bytes.
 pub struct Stepping<D> {
     pub inner: D,
     steps: Vec<Step>,
@@ -26,7 +26,7 @@ impl<D> Stepping<D> {
         Stepping { inner, steps: steps.to_vec(), calls: 0, left }
     }
 
-    /// Returns how many of `count` bytes the next call takes.
+    /// Returns how many of `count` bytes the next call processes.
     fn next_count(&mut self, count: usize) -> io::Result<usize> {
         let step = self.steps[self.calls % self.steps.len()];
         self.calls += 1;
@@ -60,7 +60,7 @@ impl<W: Write> Write for Stepping<W> {
     }
 }
 
-/// The steps of readers and writers that get all done at last.
+/// The steps of readers and writers that eventually process all bytes.
 pub fn patient_steps() -> [Vec<Step>; 4] {
     let interrupted = Step::Fail(ErrorKind::Interrupted);
     [
@@ -71,7 +71,7 @@ pub fn patient_steps() -> [Vec<Step>; 4] {
     ]
 }
 
-/// Returns the text of the cause that an error keeps.
+/// Returns the text of the cause in an error.
 pub fn cause(error: &StreamError) -> Option<String> {
     error.source().map(|cause| cause.to_string())
 }

@@ -1,6 +1,6 @@
-//! What several files of tests use.
+//! Helpers of several test files.
 
-// Each file of tests is a program of its own, and none uses all of this.
+// Each test file is compiled as a program, and none of them uses all helpers.
 #![allow(dead_code, unused_macros, unused_imports)]
 
 pub mod cases;
@@ -8,7 +8,7 @@ pub mod draws;
 pub mod planes;
 pub mod streams;
 
-/// Calls a function for the type of pixels that the first word of a case names.
+/// Calls a function for the pixel type that the first argument of a case names.
 macro_rules! for_type {
     ($call:ident, $case:expr) => {{
         let mut case = $case;
@@ -20,7 +20,7 @@ macro_rules! for_type {
     }};
 }
 
-/// Calls a function for the two types of pixels that the first words of a case name.
+/// Calls a function for the two pixel types that the first arguments of a case name.
 macro_rules! for_types {
     ($call:ident, $case:expr) => {{
         let mut case = $case;

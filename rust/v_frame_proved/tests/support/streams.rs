@@ -1,14 +1,14 @@
-//! Readers and writers that give or take little, count their calls, and fail at some call.
+//! Readers and writers that process few bytes at a time, count their calls, and fail at some call.
 
 use std::io::{self, ErrorKind, Read, Write};
 
-/// A reader over memory that gives a few bytes a call, and fails once its calls or its bytes are used up.
+/// A reader over memory that returns a few bytes for each call, and fails after a number of calls or bytes.
 pub struct Reader<'a> {
-    /// What is left of the source.
+    /// The bytes that have not been read.
     pub left: &'a [u8],
-    /// How many calls there were.
+    /// The number of calls.
     pub reads: usize,
-    /// How many of them asked for no byte.
+    /// The number of calls with an empty buffer.
     pub empty_reads: usize,
     most: usize,
     calls: usize,
@@ -16,18 +16,18 @@ pub struct Reader<'a> {
     failure: ErrorKind,
 }
 
-/// Returns a reader that gives at most `most` bytes a call and never fails.
+/// Returns a reader that returns at most `most` bytes for each call and never fails.
 pub fn reader(left: &[u8], most: usize) -> Reader<'_> {
     Reader { left, reads: 0, empty_reads: 0, most, calls: usize::MAX, bytes: usize::MAX, failure: ErrorKind::Other }
 }
 
 impl Reader<'_> {
-    /// Fails after so many calls.
+    /// Makes the reader fail after `calls` calls.
     pub fn fails_after_calls(self, calls: usize, failure: ErrorKind) -> Self {
         Reader { calls, failure, ..self }
     }
 
-    /// Fails after so many bytes.
+    /// Makes the reader fail after `bytes` bytes.
     pub fn fails_after_bytes(self, bytes: usize, failure: ErrorKind) -> Self {
         Reader { bytes, failure, ..self }
     }
@@ -48,15 +48,15 @@ impl Read for Reader<'_> {
     }
 }
 
-/// A writer that takes a few bytes a call, and has a habit once its calls or its bytes are used up.
+/// A writer that accepts a few bytes for each call, and behaves differently after a number of calls or bytes.
 pub struct Writer {
-    /// What was taken.
+    /// The bytes that were accepted.
     pub taken: Vec<u8>,
-    /// How many calls of `write` there were.
+    /// The number of calls of `write`.
     pub writes: usize,
-    /// How many of them offered no byte.
+    /// The number of calls of `write` without bytes.
     pub empty_writes: usize,
-    /// How many calls of `flush` there were.
+    /// The number of calls of `flush`.
     pub flushes: usize,
     most: usize,
     calls: usize,
@@ -64,16 +64,16 @@ pub struct Writer {
     then: Then,
 }
 
-/// What a writer does in place of taking bytes.
+/// The behavior of a writer after a number of calls or bytes.
 #[derive(Clone, Copy, Debug, PartialEq)]
 pub enum Then {
-    /// Fails with this cause.
+    /// It fails with this cause.
     Fails(ErrorKind),
-    /// Takes nothing.
+    /// It accepts no bytes.
     TakesNone,
 }
 
-/// Returns a writer that takes at most `most` bytes a call and never fails.
+/// Returns a writer that accepts at most `most` bytes for each call and never fails.
 pub fn writer(most: usize) -> Writer {
     let then = Then::TakesNone;
     Writer {
@@ -89,17 +89,17 @@ pub fn writer(most: usize) -> Writer {
 }
 
 impl Writer {
-    /// Has a habit after so many calls.
+    /// Changes the behavior after `calls` calls.
     pub fn after_calls(self, calls: usize, then: Then) -> Self {
         Writer { calls, then, ..self }
     }
 
-    /// Has a habit after so many bytes.
+    /// Changes the behavior after `bytes` bytes.
     pub fn after_bytes(self, bytes: usize, then: Then) -> Self {
         Writer { bytes, then, ..self }
     }
 
-    /// Returns the calls of `write`, those that offered nothing, and the calls of `flush`.
+    /// Returns the number of calls of `write`, of those without bytes, and of calls of `flush`.
     pub fn counts(&self) -> [usize; 3] {
         [self.writes, self.empty_writes, self.flushes]
     }

@@ -3,11 +3,11 @@
 use super::HostRuntime;
 use std::io::{self, ErrorKind};
 
-/// Returns the arguments, the program's name first.
+/// Returns the arguments. The first one is the name of the program.
 ///
 /// # Errors
 ///
-/// [`ErrorKind::InvalidData`] where one of them is not UTF-8.
+/// [`ErrorKind::InvalidData`] if an argument is not UTF-8.
 pub fn args(_rt: &HostRuntime) -> io::Result<impl Iterator<Item = String> + use<>> {
     let mut all = Vec::new();
     for argument in std::env::args_os() {

@@ -1,4 +1,4 @@
-//! Files by their names, which are UTF-8.
+//! Files whose names are UTF-8.
 
 use super::HostRuntime;
 use super::path::PathBuf;
@@ -7,12 +7,12 @@ use std::io::{self, ErrorKind, Read, Write};
 use std::os::unix::fs::OpenOptionsExt;
 use std::path;
 
-/// What opens files.
+/// A handle that opens files.
 pub trait Files {
-    /// A file that is open.
+    /// An open file.
     type File: Read + Write + OpenFile;
 
-    /// Opens the file of a name.
+    /// Opens the file with this name.
     fn open_file(&self, options: &OpenOptions, name: &str) -> io::Result<Self::File>;
 }
 
@@ -24,18 +24,18 @@ impl Files for HostRuntime {
     }
 }
 
-/// A file that is open.
+/// An open file.
 pub trait OpenFile {
-    /// Returns what the system knows of the file.
+    /// Returns the metadata of the file.
     fn metadata(&self) -> io::Result<Metadata>;
 
-    /// Says who may read and write the file.
+    /// Sets the permissions of the file.
     fn set_permissions(&self, permissions: Permissions) -> io::Result<()>;
 
-    /// Cuts the file, or fills it with zeros, to so many bytes.
+    /// Truncates the file to `len` bytes, or extends it with zeros.
     fn set_len(&self, len: u64) -> io::Result<()>;
 
-    /// Waits until what was written is on the disk.
+    /// Waits until all data has been written to the disk.
     fn sync_all(&self) -> io::Result<()>;
 }
 
@@ -57,40 +57,40 @@ impl OpenFile for File {
     }
 }
 
-/// How a file is opened.
+/// The options for opening a file.
 pub struct OpenOptions(fs::OpenOptions);
 
 impl OpenOptions {
-    /// Asks for nothing yet.
+    /// Returns options that request nothing.
     pub fn new() -> Self {
         OpenOptions(fs::OpenOptions::new())
     }
 
-    /// Asks that each write goes to the end of the file.
+    /// Requests that each write appends to the file.
     pub fn append(&mut self, append: bool) -> &mut Self {
         self.0.append(append);
         self
     }
 
-    /// Asks that the file can be written.
+    /// Requests write access.
     pub fn write(&mut self, write: bool) -> &mut Self {
         self.0.write(write);
         self
     }
 
-    /// Asks for a file that was not there before.
+    /// Requests a new file. Opening fails if the file exists.
     pub fn create_new(&mut self, create_new: bool) -> &mut Self {
         self.0.create_new(create_new);
         self
     }
 
-    /// Asks that a file that is made has no more than these bits of a mode.
+    /// Limits the permission bits of a new file to those in `mode`.
     pub fn mode(&mut self, mode: u32) -> &mut Self {
         self.0.mode(mode);
         self
     }
 
-    /// Opens the file of a name.
+    /// Opens the file with this name.
     pub fn open<H: Files>(&self, rt: &H, name: &str) -> io::Result<H::File> {
         rt.open_file(self, name)
     }
@@ -103,42 +103,42 @@ pub fn open<H: Files>(rt: &H, name: &str) -> io::Result<H::File> {
     options.open(rt, name)
 }
 
-/// Opens a file for writing, which is made where there is none, and else emptied.
+/// Opens a file for writing. The file is created if it does not exist, and truncated otherwise.
 pub fn create<H: Files>(rt: &H, name: &str) -> io::Result<H::File> {
     let mut options = OpenOptions::new();
     options.0.write(true).create(true).truncate(true);
     options.open(rt, name)
 }
 
-/// Returns what the system knows of the file that a name leads to.
+/// Returns the metadata of a file. Symbolic links are followed.
 pub fn metadata<H: Files>(_rt: &H, name: &str) -> io::Result<Metadata> {
     fs::metadata(name)
 }
 
-/// Returns what the system knows of what has this name itself, be it a symbolic link.
+/// Returns the metadata of a file, or of the symbolic link itself.
 pub fn symlink_metadata<H: Files>(_rt: &H, name: &str) -> io::Result<Metadata> {
     fs::symlink_metadata(name)
 }
 
-/// Returns the name from the root on of the file that a name leads to, with no link in it.
+/// Returns the absolute name of a file, with all symbolic links resolved.
 ///
 /// # Errors
 ///
-/// The system's, and that of a name that is not UTF-8.
+/// The error of the system, or [`ErrorKind::InvalidData`] if the name is not UTF-8.
 pub fn canonicalize<H: Files>(_rt: &H, name: &str) -> io::Result<PathBuf> {
     utf8_name(fs::canonicalize(name)?)
 }
 
-/// Returns the name that a symbolic link holds.
+/// Returns the name that a symbolic link contains.
 ///
 /// # Errors
 ///
-/// The system's, and that of a name that is not UTF-8.
+/// The error of the system, or [`ErrorKind::InvalidData`] if the name is not UTF-8.
 pub fn read_link<H: Files>(_rt: &H, name: impl AsRef<str>) -> io::Result<PathBuf> {
     utf8_name(fs::read_link(name.as_ref())?)
 }
 
-/// Returns a name that is UTF-8.
+/// Converts a name to UTF-8.
 fn utf8_name(name: path::PathBuf) -> io::Result<PathBuf> {
     match name.into_os_string().into_string() {
         Ok(text) => Ok(PathBuf::from(text)),
@@ -146,17 +146,17 @@ fn utf8_name(name: path::PathBuf) -> io::Result<PathBuf> {
     }
 }
 
-/// Removes a name of a file.
+/// Removes a file.
 pub fn remove_file<H: Files>(_rt: &H, name: &str) -> io::Result<()> {
     fs::remove_file(name)
 }
 
-/// Gives a file another name, and takes that of a file that has it.
+/// Renames a file. An existing file with the new name is replaced.
 pub fn rename<H: Files>(_rt: &H, from: &str, to: &str) -> io::Result<()> {
     fs::rename(from, to)
 }
 
-/// Returns the system's error for a name that leads through too many symbolic links. Its kind has no stable name.
+/// Returns the error of the system for too many levels of symbolic links. Its kind has no stable name in Rust.
 pub fn too_many_links() -> io::Error {
     io::Error::from_raw_os_error(if cfg!(target_os = "linux") { 40 } else { 62 })
 }

@@ -1,6 +1,7 @@
-//! What a program asks of its system, as its sources ask it: a handle is passed on to whatever opens a file or reads the clock.
+//! The interface of a program to the system, with the names and signatures that the sources use: a handle is passed to every
+//! function that opens a file or reads the clock.
 //!
-//! Written by hand over Rust's `std`.
+//! This module is written by hand over the `std` of Rust.
 
 pub mod env;
 pub mod fs;
@@ -11,9 +12,10 @@ use std::fs::File;
 use std::io;
 use std::os::fd::AsFd;
 
-/// The handle of a program that runs under a system.
+/// The handle of a program to the operating system.
 ///
-/// Its streams are files of their own, for those of `std` keep bytes back, and say of a stream that is not open that it took all.
+/// It has its own copies of the standard streams as files. The streams of `std` buffer their output, and report success for a
+/// write to a stream that is closed.
 pub struct HostRuntime {
     input: File,
     output: File,
@@ -25,7 +27,7 @@ impl HostRuntime {
     ///
     /// # Errors
     ///
-    /// The system's, where no more files may be open.
+    /// The error of the system if no more files can be opened.
     pub fn new() -> io::Result<Self> {
         Ok(HostRuntime {
             input: file_of(io::stdin())?,
@@ -34,23 +36,23 @@ impl HostRuntime {
         })
     }
 
-    /// Returns standard input, of which nothing is read ahead.
+    /// Returns standard input, without a buffer.
     pub fn stdin(&self) -> &File {
         &self.input
     }
 
-    /// Returns standard output, to which each write goes at once.
+    /// Returns standard output, without a buffer.
     pub fn stdout(&self) -> &File {
         &self.output
     }
 
-    /// Returns standard error, likewise.
+    /// Returns standard error, without a buffer.
     pub fn stderr(&self) -> &File {
         &self.error
     }
 }
 
-/// Returns the file that a stream is.
+/// Returns a stream as a file.
 fn file_of(stream: impl AsFd) -> io::Result<File> {
     Ok(File::from(stream.as_fd().try_clone_to_owned()?))
 }

@@ -1,4 +1,4 @@
-//! Names of files in parts.
+//! Names of files, and their components.
 
 use std::path;
 use v_frame_proved::support::AllocError;
@@ -8,8 +8,8 @@ use v_frame_proved::support::memory::TryPush;
 pub struct PathBuf(path::PathBuf);
 
 impl PathBuf {
-    /// Returns the name that a text is.
-    #[allow(clippy::should_implement_trait)] // Its error is that of memory.
+    /// Returns the name with this text.
+    #[allow(clippy::should_implement_trait)] // It fails if memory runs out.
     pub fn from_str(text: &str) -> Result<Self, AllocError> {
         let mut name = PathBuf(path::PathBuf::new());
         name.append(text)?;
@@ -21,22 +21,22 @@ impl PathBuf {
         self
     }
 
-    /// Returns the text that the name is.
+    /// Returns the text of the name.
     pub fn as_str(&self) -> &str {
         self.0.to_str().unwrap_or_default()
     }
 
-    /// Returns the text that the name is.
+    /// Returns the text of the name.
     pub fn into_string(self) -> String {
         self.0.into_os_string().into_string().unwrap_or_default()
     }
 
-    /// Takes the last part away. `false` where there is none.
+    /// Removes the last component. Returns `false` if there is none.
     pub fn pop(&mut self) -> bool {
         self.0.pop()
     }
 
-    /// Appends a part, or takes a name from the root on in place of all.
+    /// Appends a component. An absolute name replaces the whole name.
     fn append(&mut self, name: &str) -> Result<(), AllocError> {
         self.0
             .try_reserve(name.len().saturating_add(1))

@@ -4,12 +4,12 @@ use super::HostRuntime;
 use std::io;
 use std::time::{self, Duration};
 
-/// What reads the clock.
+/// A handle that reads the clock.
 pub trait Clock {}
 
 impl Clock for HostRuntime {}
 
-/// A reading of a clock that never goes back.
+/// A reading of a monotonic clock.
 #[derive(Clone, Copy)]
 pub struct Instant(time::Instant);
 
@@ -18,16 +18,16 @@ impl Instant {
     ///
     /// # Errors
     ///
-    /// None: Rust's clock can be read.
+    /// None. The clock of Rust's `std` never fails.
     pub fn now(_clock: &impl Clock) -> io::Result<Self> {
         Ok(Instant(time::Instant::now()))
     }
 
-    /// Returns how long ago that was.
+    /// Returns the time since this reading.
     ///
     /// # Errors
     ///
-    /// None, likewise.
+    /// None. The clock of Rust's `std` never fails.
     pub fn elapsed(&self, _clock: &impl Clock) -> io::Result<Duration> {
         Ok(self.0.elapsed())
     }

@@ -1,10 +1,10 @@
-//! The kept runs of `yuv`: a line for each, the files that they read, and what they have to print.
+//! The recorded runs of `yuv`: a line with the arguments of each, the files that they read, and the expected output.
 
 use std::fs;
 use std::path::{Path, PathBuf};
 
-/// A run: its words, the file that is its standard input, how many bytes its standard output takes, and the file whose bytes it
-/// should write there, which are then not printed.
+/// A run: its arguments, the file that is its standard input, the number of bytes that its standard output accepts, and the
+/// file whose bytes it should write there. Such output is not printed.
 pub struct Case {
     pub line: String,
     pub words: Vec<String>,
@@ -14,7 +14,7 @@ pub struct Case {
     wanted: Vec<u8>,
 }
 
-/// A folder with the files, which is removed in the end. What a run writes there is there for the next.
+/// A directory with the files, which is removed at the end. A file that a run writes there is there for the next run.
 pub struct Room(PathBuf);
 
 impl Room {
@@ -30,7 +30,7 @@ impl Room {
         room
     }
 
-    /// Returns the folder.
+    /// Returns the directory.
     pub fn folder(&self) -> &Path {
         &self.0
     }
@@ -42,7 +42,7 @@ impl Drop for Room {
     }
 }
 
-/// Returns the folder of the kept runs.
+/// Returns the directory of the recorded runs.
 fn kept() -> PathBuf {
     Path::new(env!("CARGO_MANIFEST_DIR")).join("../../crates/test_yuv_runs")
 }
@@ -63,7 +63,7 @@ pub fn cases() -> Vec<Case> {
     cases
 }
 
-/// Returns where some bytes begin in others.
+/// Returns the position of `wanted` in `bytes`.
 fn position(bytes: &[u8], wanted: &[u8]) -> usize {
     let mut windows = bytes.windows(wanted.len());
     windows.position(|window| window == wanted).expect("the next run")
@@ -84,7 +84,7 @@ fn case(line: &str, wanted: &[u8]) -> Case {
     }
 }
 
-/// Returns what stands in front of a mark, and what stands behind it.
+/// Returns the text in front of a mark, and the text after it.
 fn parted<'a>(line: &'a str, mark: &str) -> (&'a str, Option<&'a str>) {
     line.split_once(mark).map_or((line, None), |(front, back)| (front, Some(back)))
 }
@@ -96,7 +96,7 @@ impl Case {
         file.map_or(Vec::new(), |file| fs::read(file).expect("standard input"))
     }
 
-    /// Sees that a run wrote what it should, and ended so.
+    /// Checks the output and the exit status of a run.
     pub fn check(&self, room: &Room, written: &[u8], error: &[u8], status: u8) {
         let mut told = format!("$ yuv {}\n", self.line).into_bytes();
         match &self.output {

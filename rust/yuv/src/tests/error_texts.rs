@@ -1,5 +1,5 @@
-//! What errors say: each row of the table is what a value of its variant prints. tools/check-error-texts sees that no variant
-//! lacks a row.
+//! Tests the error messages: each row of the table is the message of a value of its variant. tools/check-error-texts tests that
+//! every variant has a row.
 
 use crate::generated::yuv_pictures::PictureError;
 use crate::generated::yuv_system::{Fault, NothingTaken};
@@ -20,12 +20,12 @@ fn compare<E: Display>(error: &str, values: &[(&str, E)]) {
     assert_eq!(shown.collect::<Vec<_>>(), rows);
 }
 
-/// Returns an error of the first stream, after two frames of it.
+/// Returns an error of the first stream after two frames.
 fn after_two(problem: Problem, cause: Option<ErrorKind>) -> StreamError {
     StreamError { place: Place::First, frames: 2, problem, cause }
 }
 
-/// Returns what a read that failed says, which the system did not permit.
+/// Returns the message of a read that the system did not permit.
 fn forbidden() -> StreamError {
     after_two(Problem::Stream(Y4mError::Planar(PlanarError::Read)), Some(ErrorKind::PermissionDenied))
 }

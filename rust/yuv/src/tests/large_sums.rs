@@ -1,4 +1,4 @@
-//! Measures of more squared errors than files of a sensible size have: 2^64 and above.
+//! Measures of sums of squared errors of 2^64 and above, which files of ordinary size do not reach.
 
 #[allow(clippy::duplicate_mod, dead_code)]
 #[path = "../generated/yuv_comparisons/measures.rs"]
@@ -10,10 +10,10 @@ use measures::Scale;
 
 const BILLIONS: u128 = 1 << 34;
 
-/// The largest error of 16 bits, squared.
+/// The largest squared error of 16-bit samples.
 const LARGEST: u128 = 65535 * 65535;
 
-/// Returns the measures of so many frames, of which each has so many samples, and all together have these errors.
+/// Returns the measures of `frames` frames. Each has `pixels` samples, and `errors` are the sums over all frames.
 fn measured(pixels: PlaneSums, frames: u64, errors: PlaneSums) -> FrameMeasures {
     let scale = Scale { pixels, bit_depth: 16, exact: true };
     scale.measures(&errors, frames, None)
@@ -34,10 +34,10 @@ fn means_of_sums_of_2_to_the_64_and_above() {
     assert_eq!(mean(3 << 63, 1 << 62), 6.0);
     assert_eq!(mean((1 << 64) + (1 << 12), 1), 18446744073709555712.0);
     assert_eq!(mean(5 << 70, 5 << 70), 1.0);
-    // Both are rounded to 53 bits before the division.
+    // Both numbers are rounded to 53 bits before the division.
     assert_eq!(mean(u128::MAX, 1 << 127), 2.0);
     assert_eq!(mean((1 << 64) - 1, 1), 18446744073709551616.0);
-    // Every sample of many is as far apart as it can be.
+    // Each of the many samples has the largest possible error.
     assert_eq!(mean(LARGEST * BILLIONS, BILLIONS), 4294836225.0);
 }
 

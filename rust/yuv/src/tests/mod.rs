@@ -1,4 +1,4 @@
-//! Tests of the program's parts over streams in memory.
+//! Tests of the parts of the program with streams in memory.
 
 mod cases;
 mod error_texts;

@@ -1,4 +1,4 @@
-//! The count of frames on a terminal.
+//! The frame count on a terminal.
 
 use crate::generated::yuv_system::{ProgressLine, Shown};
 use crate::support::HostRuntime;
@@ -6,7 +6,8 @@ use std::thread::sleep;
 use std::time::{Duration, Instant};
 use v_frame_proved::streams::Progress;
 
-/// A count without percents is at least six characters shorter than the one with them that stands there, and covers all of it.
+/// A count without a percentage is at least six characters shorter than the one with a percentage before it, and overwrites all
+/// of it.
 #[test]
 fn a_count_covers_a_longer_one() {
     let rt = HostRuntime::new().expect("standard streams");
@@ -23,8 +24,8 @@ fn a_count_covers_a_longer_one() {
     assert!(lines[2].ends_with("      ") && lines[2].len() == lines[1].len(), "{lines:?}");
 }
 
-/// Of the counts that come at once after a long frame the first is shown alone, and the last at the end. Where a busy machine
-/// does not let them come at once, they come again.
+/// If several counts are reported at once after a long frame, the first one is shown immediately and the last one at the end.
+/// The test is repeated if a busy machine delays some of them.
 #[test]
 fn a_count_is_shown_once_in_a_while() {
     let rt = HostRuntime::new().expect("standard streams");

@@ -1,4 +1,4 @@
-//! The kept runs over streams in memory, among them outputs whose reader goes away.
+//! The recorded runs with streams in memory, including outputs whose reader closes the pipe.
 
 use super::cases::{Case, Room, cases};
 use crate::generated::yuv_commands::{Streams, run};
@@ -9,7 +9,7 @@ use v_frame_proved::planar::PlanarError;
 use v_frame_proved::streams::{Place, Problem, StreamError};
 use v_frame_proved::y4m::Y4mError;
 
-/// A pipe that takes so many bytes, and is broken then.
+/// A pipe that accepts a number of bytes and then breaks.
 struct Pipe {
     taken: Vec<u8>,
     room: usize,
@@ -43,7 +43,7 @@ fn kept_runs_write_what_they_should() {
     assert_eq!(cases.len(), 314);
 }
 
-/// Does a run, and sees that it wrote what it should.
+/// Makes a run and checks its output.
 fn check(rt: &HostRuntime, room: &Room, case: &Case) {
     let given = case.given(room);
     let mut error = Vec::new();
@@ -63,7 +63,7 @@ fn check(rt: &HostRuntime, room: &Room, case: &Case) {
     case.check(room, &output.taken, &error, status);
 }
 
-/// Returns which write gave up and what the system reported of it, where a text was not written.
+/// Returns the failed write and the error of the system, if a text was not written.
 fn fault(written: Result<(), StreamError>) -> Option<(PlanarError, Option<ErrorKind>)> {
     match written.err()? {
         StreamError { place: Place::Output, frames: 0, problem: Problem::Stream(Y4mError::Planar(fault)), cause } => Some((fault, cause)),

@@ -1,4 +1,4 @@
-//! What the program asks of its system, where no kept run shows it.
+//! Tests of the interface to the system that the recorded runs do not cover.
 
 use super::cases::Room;
 use crate::support::HostRuntime;

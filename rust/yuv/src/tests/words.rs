@@ -1,4 +1,4 @@
-//! What calls ask for.
+//! Tests the parsing of command lines.
 
 use crate::generated::yuv_reports::ReportForm;
 use crate::generated::yuv_words::{
@@ -7,7 +7,7 @@ use crate::generated::yuv_words::{
 use v_frame_proved::formats::Rectangle;
 use v_frame_proved::y4m::Ratio;
 
-/// Calls, each behind `$ yuv `, and what each asks for, or why it asks for nothing.
+/// Command lines, each after `$ yuv `, followed by the parsed command or the error message.
 const CALLS: &str = include_str!("words.txt");
 
 #[test]
@@ -40,7 +40,7 @@ fn help_has_the_options_that_are_taken() {
     }
 }
 
-/// Of files too many the first is told.
+/// If there are too many files, the first surplus one is reported.
 #[test]
 fn the_first_file_too_many_is_told() {
     for (line, extra) in [("info a b", "b"), ("sum a b c", "b"), ("stats a b c", "b"), ("copy a b c", "c"), ("plot a b c d", "d"),
@@ -51,7 +51,7 @@ fn the_first_file_too_many_is_told() {
     }
 }
 
-/// Returns a line for what a command is, and one for each option that is given.
+/// Returns a line for the command, and one for each option that is given.
 fn told_of(command: &Command<'_>) -> String {
     let Call { name, first, second, third, options } = match command {
         Command::Help(topic) => {

@@ -1,4 +1,4 @@
--- The steps that are left lead to where eight steps lead.
+-- The remaining steps give the remainder after eight steps.
 use Rattle.std.proofs.Common.{◌≡◌, ◌-◌, ◌≤◌}
 use Rattle.v_frame_bytes.specs.Crc.{divided}
 use Rattle.v_frame_bytes.proofs.crc_tables.eight_steps.Given as goal

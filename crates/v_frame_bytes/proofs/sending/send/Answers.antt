@@ -1,4 +1,4 @@
--- One more write appends what it took.
+-- One more write appends the bytes that it accepted.
 use Rattle.std.proofs.Common.{◌-◌, length, take, drop, ap, arith, length-take, length-drop}
 use Rattle.std.proofs.lemmas.List.{take_rest}
 use Rattle.std.proofs.KnownBytes.{Appends-trans}

@@ -1,4 +1,4 @@
--- What was written is the beginning of the bytes. Nothing is written of no bytes.
+-- The written bytes are a beginning of all bytes. If there are no bytes, nothing is written.
 use Rattle.std.proofs.Common.{◌≡◌, ◌≤◌, ◌-◌, [], length, take}
 use Rattle.std.specs.Io.KnownBytes.{Appends}
 use Rattle.v_frame_bytes.proofs.sending.send.Given as goal

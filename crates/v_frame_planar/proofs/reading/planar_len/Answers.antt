@@ -1,4 +1,4 @@
--- The bytes of three planes, one after the other.
+-- The bytes of the three planes follow one another.
 use Rattle.std.proofs.Common.{arith, length-append}
 use Rattle.v_frame_planar.proofs.reading.planar_len.Goals as goal
 

@@ -1,4 +1,4 @@
--- A frame for which there was no room, and one that came to its end.
+-- Memory was not available, or the stream ended.
 use Rattle.std.proofs.Common.{length, ◌∙◌, ap}
 use Rattle.std.proofs.lemmas.List.{take_at}
 use Rattle.v_frame_planar.proofs.Stops.{no_room, was_read, was_truncated}

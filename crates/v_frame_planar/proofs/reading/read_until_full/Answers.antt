@@ -1,4 +1,5 @@
--- One more read fills the buffer by what it gave, and a failed one leaves what was read.
+-- One more read fills the next bytes of the buffer, and a failed read leaves those before
+-- unchanged.
 use Rattle.std.proofs.Common.{ℕ, List, ◌≡◌, ◌≤◌, ◌++◌, ◌+◌, ◌-◌, ◌<◌, length, take, ◌∙◌, rules, arith, length-take-le}
 use Rattle.std.proofs.lemmas.Grind.{common_steps}
 use Rattle.std.proofs.KnownBytes.{Consumes-kept, Consumes-trans}
@@ -6,7 +7,8 @@ use borrow.Rule.Slice.PartMut.{put_mid, post_of}
 use lib.Seq.{take-append-le, take-append-add}
 use Rattle.v_frame_planar.proofs.reading.read_until_full.Goals as goal
 
--- the front of a buffer of which a part was filled anew, and the first of that part
+-- If a part of a buffer was filled, the bytes up to the filled ones are those in front of it and
+-- those at its front.
 taken_from_part : (at long n : ℕ) (old part : List ℕ) → at ≤ length old → n ≤ length part
     → take (at + n) (put_mid at long old part) ≡ take at old ++ take n part
 taken_from_part at long n old part within fits =

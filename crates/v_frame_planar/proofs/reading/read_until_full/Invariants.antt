@@ -1,4 +1,4 @@
--- What was read stands at the front of the buffer, and nothing has failed.
+-- The bytes that were read are at the front of the buffer, and no read has failed.
 use Rattle.std.proofs.Common.{◌≡◌, ◌≤◌, ◌-◌, length, take}
 use Rattle.std.specs.Io.KnownBytes.{Consumes}
 use Rattle.v_frame_planar.proofs.reading.read_until_full.Given as goal

@@ -1,4 +1,4 @@
--- A frame whose bytes have not all come is as it was.
+-- A frame of which bytes are missing is unchanged.
 use Rattle.std.proofs.Common.{refl, rules}
 use Rattle.v_frame_planar.proofs.reading.store_whole_frame.Goals as goal
 

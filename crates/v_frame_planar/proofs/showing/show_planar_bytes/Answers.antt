@@ -1,4 +1,4 @@
--- Nothing is left of the bytes behind the last plane.
+-- No bytes are left after the last plane.
 use Rattle.std.proofs.Common.{append-nil, arith}
 use Rattle.std.proofs.lemmas.List.{nil_from_length}
 use Rattle.v_frame_planar.proofs.showing.show_planar_bytes.Goals as goal

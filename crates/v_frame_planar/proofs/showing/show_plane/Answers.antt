@@ -1,4 +1,4 @@
--- A copy of bytes keeps the size of the table.
+-- A copy of bytes does not change the size of the table.
 use Rattle.std.proofs.Common.{◌∙◌, ap}
 use Rattle.v_frame_planar.specs.Planar.{size_of}
 use Rattle.v_frame_planar.proofs.Sizes.{size_after_copy}

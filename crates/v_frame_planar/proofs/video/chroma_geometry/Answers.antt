@@ -1,4 +1,4 @@
--- Chroma is no larger than luma, so it can be laid out where luma can.
+-- Chroma is not larger than luma, so it can be laid out if luma can.
 use Rattle.std.proofs.Common.{◌≡◌, Some, option_map, ◌∙◌, ap, rules}
 use Rattle.v_frame.specs.Prelude.{ratio_of}
 use Rattle.v_frame_planar.specs.Video.{covering_geometry}

@@ -1,4 +1,5 @@
--- Luma with paddings that were cut to what can be counted is refused for the same reason, and made as it was asked for.
+-- Luma with a padding that was replaced because it is too large is rejected for the same reason,
+-- and otherwise as requested.
 use Rattle.std.proofs.Common.{◌≡◌, min}
 use Rattle.v_frame.specs.Prelude.{usize_max, FrameRequest}
 use Rattle.v_frame.specs.declared.frame.error.FrameError.TheVariants.{OutOfMemory}

@@ -1,4 +1,4 @@
--- What is reported of a blank frame follows from the request, which luma alone can refuse.
+-- The facts about a blank frame follow from the request, which only luma can make invalid.
 use Rattle.std.proofs.Common.{refl}
 use Rattle.v_frame.specs.declared.frame.error.FrameError.TheVariants.{OutOfMemory}
 use Rattle.v_frame_planar.specs.Video.{video_request}

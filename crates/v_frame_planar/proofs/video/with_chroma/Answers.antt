@@ -1,4 +1,4 @@
--- Chroma is laid out by the geometry of luma, which is the one that was asked for.
+-- The geometry of chroma follows from that of luma, which is the requested one.
 use Rattle.std.proofs.Common.{◌≡◌, ◌∙◌, ap, option_map, sym}
 use Rattle.v_frame.specs.Prelude.{filled}
 use Rattle.v_frame_planar.specs.Video.{covering_chroma}

@@ -1,4 +1,4 @@
--- What was written, and after it the bytes of what is still to be, are all planar bytes.
+-- The written bytes, followed by the bytes of the remaining pixels, are all planar bytes.
 use Rattle.std.proofs.Common.{ℕ, ◌≡◌, List, ◌++◌, length}
 use Rattle.std.specs.Io.KnownBytes.{Appends}
 use Rattle.v_frame.specs.Prelude.{bytes_of_pixels, tables_of}

@@ -1,4 +1,4 @@
--- The lanes are the pairs, and their bytes the pixels.
+-- The lanes are the pairs, and their bytes are the pixels.
 use Rattle.std.proofs.Common.{◌≡◌, ◌/◌, ◌<◌, length, map, take, bit_and, refl, sym, ◌∙◌, ap, arith}
 use Rattle.std.specs.Simd.Lanes.{number_l, digits_l}
 use Rattle.std.proofs.lemmas.List.{take_all}

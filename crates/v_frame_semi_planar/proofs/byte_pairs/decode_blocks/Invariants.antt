@@ -1,4 +1,4 @@
--- The pixels so far are those of the bytes by turns.
+-- The pixels so far, interleaved, are those of the bytes.
 use Rattle.std.proofs.Common.{◌*◌, length}
 use Rattle.v_frame_semi_planar.specs.SemiPlanar.{shown_pixels}
 use Rattle.v_frame_semi_planar.proofs.Interleaving.{FirstApart}

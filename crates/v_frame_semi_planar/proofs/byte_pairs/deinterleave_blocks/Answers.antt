@@ -1,4 +1,4 @@
--- Sixteen more pixels of each row, and all.
+-- Sixteen more pixels of each row, until all are copied.
 use Rattle.std.proofs.Common.{◌≡◌, ◌+◌, ◌-◌, ◌*◌, ◌/◌, ◌≤◌, length, take, drop, refl, sym, ◌∙◌, ap, arith}
 use Rattle.std.proofs.Common.{length-take-le, length-drop}
 use Rattle.std.proofs.lemmas.List.{take_all}

@@ -1,4 +1,4 @@
--- The pixels so far are those of the row by turns.
+-- The pixels so far, interleaved, are those of the row.
 use Rattle.std.proofs.Common.{◌*◌}
 use Rattle.v_frame_semi_planar.proofs.Interleaving.{FirstApart}
 use Rattle.v_frame_semi_planar.proofs.byte_pairs.deinterleave_blocks.Given as goal

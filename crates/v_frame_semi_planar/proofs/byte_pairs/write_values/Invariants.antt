@@ -1,4 +1,4 @@
--- The bytes so far are the values so far.
+-- The bytes so far are the values of the pixels so far.
 use Rattle.std.proofs.Common.{◌≡◌, map, take}
 use Rattle.v_frame_semi_planar.proofs.byte_pairs.write_values.Given as goal
 

@@ -1,4 +1,4 @@
--- The rows that are written are those of the two planes, which have one size.
+-- The rows that are written are those of the two planes, which have the same size.
 use Rattle.std.proofs.Common.{◌≡◌, sym, ◌∙◌}
 use Rattle.v_frame_semi_planar.proofs.chroma.deinterleave.Goals as goal
 

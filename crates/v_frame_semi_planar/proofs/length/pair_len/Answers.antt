@@ -1,4 +1,4 @@
--- The bytes of the pixels of both planes.
+-- The number of bytes of both planes.
 use Rattle.std.proofs.Common.{◌≡◌, ◌*◌, sym, ◌∙◌, ap, arith}
 use Rattle.v_frame.specs.Prelude.{row_major, table_of}
 use Rattle.v_frame_semi_planar.proofs.Interleaving.{pixels_by_turns}

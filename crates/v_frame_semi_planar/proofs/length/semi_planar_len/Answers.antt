@@ -1,4 +1,4 @@
--- The bytes of luma, and those of both chroma planes.
+-- The number of bytes of luma and of both chroma planes.
 use Rattle.std.proofs.Common.{◌≡◌, ◌+◌, ◌*◌, length, ap, arith, length-append}
 use Rattle.v_frame.specs.Prelude.{row_major, tables_of}
 use Rattle.v_frame_semi_planar.specs.Format.{unused_bits}

@@ -1,4 +1,4 @@
--- The bytes that were read are as many as those of the frame, and the frame shows their pixels.
+-- The number of bytes read is that of the frame, and the frame has their pixels.
 use Rattle.std.proofs.Common.{ℕ, ◌≡◌, ◌*◌, ◌/◌, List, length, sym, ◌∙◌, ap, rules, arith}
 use Rattle.std.specs.Io.KnownBytes.{Consumes}
 use Rattle.v_frame.specs.Prelude.{tables_of}

@@ -1,4 +1,4 @@
--- The bytes are those of luma, and after them those of both chroma planes.
+-- The bytes are those of luma, followed by those of both chroma planes.
 use Rattle.std.proofs.Common.{◌≡◌, ◌+◌, ◌*◌, ◌++◌, length, take, option_map, sym, ◌∙◌, ap, arith}
 use Rattle.std.proofs.Common.{length-append}
 use Rattle.v_frame.specs.Prelude.{row_major, table_of, tables_of}

@@ -1,4 +1,4 @@
--- One more sample is that of its bytes.
+-- One more sample is the one that its bytes encode.
 use Rattle.std.proofs.Common.{◌≡◌, ◌*◌, length, slice_get, slice_set, refl, sym, ◌∙◌, arith}
 use Rattle.v_frame_raster.proofs.tables.Lists.{same_by_slice_get, set_is_read, others_are_read}
 use Rattle.v_frame_semi_planar.specs.SemiPlanar.{shown_pixels}

@@ -1,4 +1,4 @@
--- The samples so far are those of the bytes.
+-- The samples so far are those that the bytes encode.
 use Rattle.std.proofs.Common.{ℕ, ◌≡◌, ◌<◌, length, slice_get}
 use Rattle.v_frame_semi_planar.specs.SemiPlanar.{shown_pixels}
 use Rattle.v_frame_semi_planar.proofs.samples.decode_moved.Given as goal

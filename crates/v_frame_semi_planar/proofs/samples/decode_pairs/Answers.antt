@@ -1,4 +1,4 @@
--- The blocks and the rest are what the bytes show.
+-- The blocks and the remaining samples are those that the bytes encode.
 use Rattle.std.proofs.Common.{◌≡◌, ◌+◌, ◌*◌, ◌<◌, ◌++◌, length, take, drop, refl, sym, ◌∙◌, ap, arith}
 use Rattle.v_frame_semi_planar.specs.Interleaved.{interleaved}
 use Rattle.v_frame_semi_planar.specs.SemiPlanar.{shown_pixels}

@@ -1,4 +1,4 @@
--- One more sample of each row is that of its bytes.
+-- One more sample of each row is the one that its bytes encode.
 use Rattle.std.proofs.Common.{◌≡◌, ◌+◌, ◌*◌, length, slice_get, slice_set, sym, ◌∙◌, ap, arith}
 use Rattle.v_frame_raster.proofs.tables.Lists.{set_is_read, others_are_read}
 use Rattle.v_frame_semi_planar.specs.SemiPlanar.{shown_pixels}

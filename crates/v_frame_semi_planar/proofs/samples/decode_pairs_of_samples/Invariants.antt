@@ -1,4 +1,4 @@
--- The samples so far are those of the bytes by turns.
+-- The samples so far, interleaved, are those that the bytes encode.
 use Rattle.std.proofs.Common.{◌*◌, length}
 use Rattle.v_frame_semi_planar.specs.SemiPlanar.{shown_pixels}
 use Rattle.v_frame_semi_planar.proofs.Interleaving.{ByTurnsBelow}

@@ -1,4 +1,4 @@
--- The bytes of the first samples stand in front.
+-- The bytes of the first samples are at the front.
 use Rattle.std.proofs.Common.{◌≡◌, ◌*◌, take}
 use Rattle.v_frame_semi_planar.specs.SemiPlanar.{stored_bytes}
 use Rattle.v_frame_semi_planar.proofs.samples.encode_moved.Given as goal

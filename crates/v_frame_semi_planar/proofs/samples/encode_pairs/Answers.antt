@@ -1,4 +1,4 @@
--- The bytes of one more sample of each row come after those before.
+-- The bytes of one more sample of each row follow those before.
 use Rattle.std.proofs.Common.{◌+◌, ◌*◌, ◌≤◌, length, refl, sym, ◌∙◌, ap, arith}
 use Rattle.std.proofs.Math.Nat.{mul-le-mul_left}
 use Rattle.std.proofs.lemmas.Option.{slice_get_read}

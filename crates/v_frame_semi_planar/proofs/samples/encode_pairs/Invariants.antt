@@ -1,4 +1,4 @@
--- The bytes of the first samples of both rows stand in front.
+-- The bytes of the first samples of both rows are at the front.
 use Rattle.std.proofs.Common.{◌≡◌, ◌*◌, take}
 use Rattle.v_frame_semi_planar.specs.Interleaved.{interleaved}
 use Rattle.v_frame_semi_planar.specs.SemiPlanar.{stored_bytes}

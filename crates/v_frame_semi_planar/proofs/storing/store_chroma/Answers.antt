@@ -1,4 +1,4 @@
--- One more row of each plane is that of its bytes by turns.
+-- One more row of each plane is the one that its bytes encode, interleaved.
 use Rattle.std.proofs.Common.{ℕ, ◌≡◌, ◌+◌, ◌-◌, ◌*◌, ◌<◌, List, length, take, drop, Some, slice_get, refl, sym}
 use Rattle.std.proofs.Common.{◌∙◌, ap, arith}
 use Rattle.std.proofs.Common.{◌≤◌, length-drop, length-take-le}
@@ -20,7 +20,7 @@ loop-y-init g c = record {
   second_border = refl;
 }
 
--- a row's bytes end within those of all rows
+-- The bytes of a row end within those of all rows.
 row_ends : (piece y height all : ℕ) → y < height → piece * height ≡ all → piece * y + piece ≤ all
 row_ends piece y height all low is =
     let next : y + 1 ≤ height = omega arith in

@@ -1,4 +1,4 @@
--- The rows so far are those of the bytes by turns, and the borders are as they were.
+-- The rows so far, interleaved, are those that the bytes encode, and the borders are unchanged.
 use Rattle.std.proofs.Common.{◌≡◌, ◌*◌, length}
 use Rattle.v_frame.specs.Prelude.{KeepsBorder, table_of}
 use Rattle.v_frame_semi_planar.proofs.Interleaving.{ApartBelow}

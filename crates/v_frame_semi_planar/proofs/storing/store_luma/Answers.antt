@@ -1,4 +1,4 @@
--- One more row is that of its bytes.
+-- One more row is the one that its bytes encode.
 use Rattle.std.proofs.Common.{ℕ, ◌≡◌, ◌+◌, ◌-◌, ◌*◌, ◌<◌, List, length, take, drop, slice_get, slice_set, sym}
 use Rattle.std.proofs.Common.{◌∙◌, ap, arith}
 use Rattle.std.proofs.Math.Nat.{mul_comm}

@@ -1,4 +1,4 @@
--- The rows so far are those of the bytes, and the border is as it was.
+-- The rows so far are those that the bytes encode, and the border is unchanged.
 use Rattle.std.proofs.Common.{ℕ, ◌≡◌, ◌<◌, length, slice_get}
 use Rattle.v_frame.specs.Prelude.{KeepsBorder, table_of}
 use Rattle.v_frame_semi_planar.proofs.Stored.{stored_rows}

@@ -1,4 +1,4 @@
--- The planes have so many pixels by turns.
+-- The number of pixels of both planes together.
 use Rattle.std.proofs.Common.{◌≡◌, ◌*◌, length, sym, ◌∙◌, ap, arith}
 use Rattle.v_frame.specs.Prelude.{row_major, table_of}
 use Rattle.v_frame_ops.specs.Change.{combined}

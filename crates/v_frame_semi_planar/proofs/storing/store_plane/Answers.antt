@@ -1,4 +1,4 @@
--- The plane has so many pixels.
+-- The number of pixels of the plane.
 use Rattle.std.proofs.Common.{◌≡◌, ◌*◌, length, refl, sym, ◌∙◌, ap, arith}
 use Rattle.v_frame.specs.Prelude.{row_major, table_of}
 use Rattle.v_frame_semi_planar.specs.SemiPlanar.{shown_pixels}

@@ -1,4 +1,4 @@
--- One more block goes after what was written, or the bytes stop inside it.
+-- One more block follows the written bytes, or writing stops inside it.
 use Rattle.std.proofs.Common.{◌++◌, [], take, refl, ◌∙◌, append_assoc, rules, arith}
 use Rattle.std.proofs.lemmas.Grind.{common_steps}
 use Rattle.std.proofs.KnownBytes.{Appends-nil, Appends-trans}

@@ -1,4 +1,4 @@
--- What was written, and after it the bytes of what is still to be, are all bytes.
+-- The written bytes, followed by the bytes of the remaining samples, are all bytes.
 use Rattle.std.proofs.Common.{ℕ, ◌≡◌, List, ◌++◌, length}
 use Rattle.std.specs.Io.KnownBytes.{Appends}
 use Rattle.v_frame_semi_planar.specs.Pending.{pixels_pending}

@@ -1,4 +1,4 @@
--- There is no error exactly where the tables are the same.
+-- The error is 0 exactly if the tables are equal.
 use Rattle.std.proofs.Common.{ℕ, ◌≡◌, ◌∙◌, All, ap, length, sym, subst, eq-eqb, eqb-true}
 use Rattle.v_frame.specs.Prelude.{table_of}
 use Rattle.v_frame_streams.proofs.NoErrors.{no_errors_where_same}

@@ -1,4 +1,4 @@
--- What was passed over, and then what was compared and taken.
+-- The skipped frames, followed by those that were compared and observed.
 use Rattle.std.proofs.Common.{ℕ, ◌≡◌, rules, subst}
 use Rattle.std.proofs.lemmas.Result.{IfOk-weaker}
 use Rattle.std.specs.Prelude.{unwrap_or, IfOk}

@@ -1,4 +1,4 @@
--- What was found is what the frames so far give, and the next ones have their size.
+-- The result so far is that of the frames so far, and the next ones have the same size.
 use Rattle.std.proofs.Common.{◌≡◌}
 use Rattle.std.specs.Prelude.{None}
 use Rattle.v_frame.specs.Prelude.{tables_of}

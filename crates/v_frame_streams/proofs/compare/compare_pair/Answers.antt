@@ -1,4 +1,4 @@
--- What one more frame of each stream adds, and what the observer takes.
+-- The change of the result by one more pair of frames, and the pair that the observer receives.
 use Rattle.std.proofs.Common.{◌∙◌, ap, arith, subst}
 use Rattle.v_frame.specs.Prelude.{tables_of}
 use Rattle.v_frame_streams.specs.Comparisons.{Pair}

@@ -1,4 +1,4 @@
--- What a conversion shows, by the sizes of the tables.
+-- The tables of a conversion, by the sizes of the tables.
 use Rattle.std.proofs.Common.{◌∙◌, ap, subst, sym}
 use Rattle.v_frame.specs.Prelude.{tables_of}
 use Rattle.v_frame_planar.specs.Planar.{sizes_of}

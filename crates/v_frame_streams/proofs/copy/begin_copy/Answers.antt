@@ -1,4 +1,4 @@
--- Nothing was read where no header was written, and else the frames that were passed over.
+-- If no header was written, nothing was read. Otherwise the skipped frames were read.
 use Rattle.std.proofs.Common.{[], arith, inl, inr, refl}
 use Rattle.std.proofs.lemmas.Result.{err_from_is_err_and}
 use Rattle.v_frame_streams.specs.Sources.{bytes_left}

@@ -1,4 +1,4 @@
--- The options and the depths say which bytes are written.
+-- The options and the bit depths determine the bytes that are written.
 use Rattle.std.proofs.Common.{Bool, Option, ◌≡◌, ◌∙◌, ap, sym}
 use Rattle.std.proofs.lemmas.Result.{err_from_is_err_and, IfOk-weaker}
 use Rattle.v_frame.specs.Prelude.{one_byte, two_bytes}
@@ -13,7 +13,7 @@ use Rattle.v_frame_streams.specs.declared.stream.Container.{Container}
 use Rattle.v_frame_streams.proofs.Copying.{edited_copy, form_of_eight, form_of_more, none_broken, plain_copy}
 use Rattle.v_frame_streams.proofs.copy.copy_stream.Goals as goal
 
--- what the call says of a stream: whether its bytes are passed on
+-- The branch of the call: whether the bytes of a stream are copied unchanged.
 said : (to : Container) (options : CopyOptions) {header read : StreamHeader} {layout found : Option SemiPlanarFormat}
     {plain : Bool} → read ≡ header → found ≡ layout → plain ≡ is_plain to options read found
     → is_plain to options header layout ≡ plain

@@ -1,4 +1,4 @@
--- The depth of what is written says how its pixels are made of bytes.
+-- The bit depth of the output determines the encoding of its pixels.
 use Rattle.std.proofs.Common.{◌∙◌, ℕ, subst, sym}
 use Rattle.std.specs.Prelude.{IfOk}
 use Rattle.v_frame.specs.Prelude.{PixelForm}

@@ -1,4 +1,4 @@
--- What was passed over, and then what was made of the frames that were read.
+-- The skipped frames, followed by those that were edited.
 use Rattle.std.proofs.Common.{◌≡◌, ◌∙◌, ap, Bool, List, Option, ℕ, rules, subst, sym}
 use Rattle.std.proofs.lemmas.Result.{err_from_is_err_and, IfOk-weaker}
 use Rattle.std.specs.Prelude.{IfOk}

@@ -1,4 +1,4 @@
--- What was passed over, and then what was moved.
+-- The skipped frames, followed by those that were copied unchanged.
 use Rattle.std.proofs.Common.{◌≡◌, Bool, ℕ, rules, subst}
 use Rattle.std.proofs.lemmas.Result.{IfOk-weaker}
 use Rattle.std.specs.Prelude.{IfOk}

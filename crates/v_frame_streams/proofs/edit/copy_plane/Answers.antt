@@ -1,4 +1,4 @@
--- The tables have one size, and agree pixel by pixel.
+-- The tables have the same size, and agree pixel by pixel.
 use Rattle.std.proofs.Common.{◌≡◌, All, length, subst, arith}
 use Rattle.v_frame.specs.Prelude.{table_of}
 use Rattle.v_frame_streams.proofs.Copied.{agree_from_the_corner}

@@ -1,4 +1,4 @@
--- One more frame was carried and changed.
+-- One more frame was edited and written.
 use Rattle.std.proofs.Common.{◌≡◌, ◌∙◌, ◌++◌, ◌∷◌, [], Bool, true, arith, inl, inr, length-append, refl, rules, subst, sym}
 use Rattle.std.proofs.lemmas.Result.{err_from_is_err_and}
 use Rattle.std.specs.Io.KnownBytes.{Appends}
@@ -77,7 +77,7 @@ loop-count-preserved g c =
       told = one_more_told g.P.Progress.shows _ _ _ _ before.told c.show_one_more.ensures;
     }
 
--- the frame that was not written is the last of those that were read
+-- The frame that was not written is the last one that was read.
 pub returns-in_err-write_frame-clause-broken : goal.returns-in_err-write_frame-clause-broken
 returns-in_err-write_frame-clause-broken g c =
     let before = c.loop-count.invariant in
@@ -109,7 +109,7 @@ returns-in_err-write_frame-clause-broken g c =
       behind = inr (omega (arith, long, before.carried.counted));
     }
 
--- the frame that was not read is behind those that were carried
+-- The frame that was not read comes after those that were written.
 pub returns-in_err-read-clause-broken : goal.returns-in_err-read-clause-broken
 returns-in_err-read-clause-broken g c =
     let before = c.loop-count.invariant in

@@ -1,4 +1,4 @@
--- The frames so far were carried, and the next one has their size.
+-- The frames so far were edited and written, and the next one has the same size.
 use Rattle.std.proofs.Common.{◌≡◌, ◌+◌}
 use Rattle.std.specs.Prelude.{min}
 use Rattle.v_frame.specs.Prelude.{tables_of}

@@ -1,4 +1,4 @@
--- The frame is one for the layout.
+-- The frame fits the layout.
 use Rattle.std.proofs.Common.{Option, subst}
 use Rattle.v_frame_semi_planar.specs.declared.format.SemiPlanarFormat.{SemiPlanarFormat}
 use Rattle.v_frame_streams.specs.Plans.{shape_of, FitsLayout}

@@ -1,4 +1,4 @@
--- One more frame was carried.
+-- One more frame was copied.
 use Rattle.std.proofs.Common.{◌≡◌, ◌∙◌, Bool, true, arith, inl, subst}
 use Rattle.std.proofs.lemmas.Result.{err_from_is_err_and}
 use Rattle.v_frame_streams.specs.Copies.{MovesNext}
@@ -35,7 +35,7 @@ loop-count-preserved g c =
       told = one_more_told g.P.Progress.shows _ _ _ _ before.told c.show_one_more.ensures;
     }
 
--- the frame that stopped it is behind those that were carried
+-- The frame at which the call failed comes after those that were copied.
 pub returns-in_err-move_frame-clause-broken : goal.returns-in_err-move_frame-clause-broken
 returns-in_err-move_frame-clause-broken g c =
     let before = c.loop-count.invariant in

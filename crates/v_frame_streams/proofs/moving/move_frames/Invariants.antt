@@ -1,4 +1,4 @@
--- The frames so far were carried.
+-- The frames so far were copied.
 use Rattle.std.proofs.Common.{◌≡◌, ◌+◌, length, ◌<◌}
 use Rattle.std.specs.Prelude.{min}
 use Rattle.v_frame_streams.specs.Copies.{same_bytes, Carries}

@@ -1,4 +1,4 @@
--- So many bytes of the frame were read and written.
+-- The bytes of the frame so far were read and written.
 use Rattle.std.proofs.Common.{◌≡◌, ◌≤◌, ◌-◌, length}
 use Rattle.v_frame_streams.specs.Copies.{MovesSome}
 use Rattle.v_frame_streams.specs.Sources.{bytes_left, stream_of}

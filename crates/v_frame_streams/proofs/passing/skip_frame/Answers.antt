@@ -27,7 +27,7 @@ returns-clause-read g c =
     subst (λ (l : Option (List ℕ)). ReadsWhole left l from count true) (sym c.end_frame.ensures.left)
     (whole_of_parts count left mid _ front rest.0 whole rest.1 from begun)
 
--- the stream ended, or a read failed, behind the front
+-- After the front, the stream ended or a read failed.
 pub returns-in_err-skip_rest-clause-problem : goal.returns-in_err-skip_rest-clause-problem
 returns-in_err-skip_rest-clause-problem g c =
     let start = unread_of g.R.Read.remaining c.args.source.now in

@@ -1,4 +1,4 @@
--- One more frame was passed over.
+-- One more frame was skipped.
 use Rattle.std.proofs.Common.{◌≡◌, ◌∙◌, ◌+◌, Bool, true, arith, subst}
 use Rattle.std.specs.Prelude.{min}
 use Rattle.std.proofs.lemmas.Result.{err_from_is_err_and}
@@ -30,7 +30,7 @@ loop-count-preserved g c =
       told = one_more_told g.P.Progress.shows _ _ _ _ before.told c.show_one_more.ensures;
     }
 
--- the frame that stopped it is the one behind those that were counted
+-- The frame at which the call failed comes after those that were counted.
 pub returns-in_err-skip_frame-clause-problem : goal.returns-in_err-skip_frame-clause-problem
 returns-in_err-skip_frame-clause-problem g c =
     let left = unread_of g.R.Read.remaining c.skip_frame.new.source in

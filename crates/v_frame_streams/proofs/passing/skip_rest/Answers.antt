@@ -30,7 +30,7 @@ loop-done-preserved g c =
       size = length-append part (drop count block) ∙ omega (arith, long, length-drop count block, fits, before.size);
     }
 
--- the stream ended, or a read failed, behind what was read before
+-- After the bytes read so far, the stream ended or a read failed.
 pub returns-in_err-read_part-clause-problem : goal.returns-in_err-read_part-clause-problem
 returns-in_err-read_part-clause-problem g c =
     let start = unread_of g.R.Read.remaining c.args.source.now in

@@ -1,4 +1,4 @@
--- So many bytes of the frame were read.
+-- The bytes of the frame so far were read.
 use Rattle.std.proofs.Common.{◌≡◌, ◌≤◌, ◌-◌, length}
 use Rattle.v_frame_planar.specs.Planar.{ConsumesSome}
 use Rattle.v_frame_streams.specs.Sources.{bytes_left, stream_of}

@@ -1,4 +1,4 @@
--- The bytes are as many as the frame has in the layout, and it shows them.
+-- The number of bytes is that of the frame in the layout, and the frame has their pixels.
 use Rattle.std.proofs.Common.{◌≡◌, ◌∙◌, ◌*◌, ◌/◌, ap, length, refl, sym, ℕ}
 use Rattle.std.specs.Prelude.{option_map}
 use Rattle.v_frame.specs.Prelude.{tables_of}

@@ -1,4 +1,4 @@
--- What `retain` keeps is what its test filters.
+-- `retain` keeps the items that its test filters.
 use Rattle.std.proofs.Common.{rules, ◌∙◌, ap}
 use Rattle.std.proofs.lemmas.List.Elements.{filter_from_retain}
 use Rattle.v_frame_streams.specs.Copies.{without_format}

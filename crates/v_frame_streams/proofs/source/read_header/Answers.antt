@@ -1,4 +1,4 @@
--- A header that was not read has the cause that its reader reported last, and no other.
+-- If the header was not read, the cause of the error is the last failure of the reader.
 use Rattle.std.proofs.Common.{refl, subst, sym}
 use Rattle.std.specs.Io.Buffered.{reader_remaining}
 use Rattle.v_frame_streams.specs.Errors.{IsAtStart, StopsOpening}

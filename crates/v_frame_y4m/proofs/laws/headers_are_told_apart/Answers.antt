@@ -1,4 +1,4 @@
--- The pieces of a line are one list.
+-- A line has only one list of pieces.
 use Rattle.std.proofs.Common.{List, ℕ, drop, sym, ◌∙◌, ap, subst}
 use Rattle.v_frame_y4m.specs.Header.{Says}
 use Rattle.v_frame_y4m.proofs.HeaderTexts.{one_header}

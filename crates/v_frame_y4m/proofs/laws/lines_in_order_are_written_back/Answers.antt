@@ -1,4 +1,4 @@
--- Parameters in order are those that are written.
+-- Parameters in the order of the writer are those that are written.
 use Rattle.std.proofs.Common.{drop, ap, subst}
 use Rattle.v_frame_y4m.specs.Header.{IsInOrder}
 use Rattle.v_frame_y4m.proofs.HeaderLines.{in_order_comes_back}

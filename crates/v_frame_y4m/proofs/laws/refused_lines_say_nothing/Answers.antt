@@ -1,4 +1,4 @@
--- Each fault contradicts what a header says.
+-- Each fault contradicts the statement of a header.
 use Rattle.v_frame_y4m.proofs.HeaderFaults.{refusal_refutes}
 use Rattle.v_frame_y4m.proofs.laws.refused_lines_say_nothing.Goals as goal
 

@@ -1,4 +1,4 @@
--- The line says the header, and a line says one.
+-- The line states the header, and a line states only one.
 use Rattle.std.proofs.Common.{List, ℕ, drop, sym, ◌∙◌, ap, subst}
 use Rattle.std.proofs.lemmas.List.Elements.{All-weaker}
 use Rattle.v_frame_y4m.specs.Header.{header_line, IsPiece, Says}

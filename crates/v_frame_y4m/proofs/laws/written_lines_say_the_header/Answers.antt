@@ -1,4 +1,4 @@
--- The line is cut at its spaces into the parameters.
+-- Splitting the line at its spaces gives the parameters.
 use Rattle.std.proofs.lemmas.List.Elements.{All-weaker}
 use Rattle.v_frame_y4m.specs.Header.{IsPiece}
 use Rattle.v_frame_y4m.proofs.HeaderLines.{written_is_header, piece_has_no_space, NoSpace}

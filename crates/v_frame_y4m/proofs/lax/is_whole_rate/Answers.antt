@@ -1,4 +1,4 @@
--- The test of the digits, as one that computes.
+-- The test of the digits, in a form that computes.
 use Rattle.std.proofs.Common.{ℕ, ◌≡◌, ◌≤◌, ◌<◌, List, [], ◌∷◌, Bool, true, false, drop, length, take, ◌-◌, refl, sym, ap, subst, rules, arith}
 use Rattle.std.proofs.Common.{length-drop, take_all}
 use Rattle.std.specs.Prelude.{nat_eq, nat_le, nat_lt, slice_index, All, IsTrue, ◌&&◌, ◌↔◌}

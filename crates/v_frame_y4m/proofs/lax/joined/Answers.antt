@@ -1,4 +1,4 @@
--- One more piece was looked at.
+-- One more piece has been processed.
 use Rattle.std.proofs.Common.{arith}
 use Rattle.std.proofs.lemmas.Grind.{common_steps}
 use Rattle.v_frame_y4m.proofs.LaxLines.{piece_added, piece_passed}

@@ -1,4 +1,4 @@
--- What was made, and after it what is to be made of the rest.
+-- The line so far, followed by the line of the remaining pieces, is the whole line.
 use Rattle.std.proofs.Common.{◌≡◌, drop}
 use Rattle.std.specs.Prelude.{filter, map}
 use Rattle.v_frame_y4m.specs.Header.{texts_of}

@@ -1,4 +1,4 @@
--- What was read from a line can be written.
+-- A header that was read from a line can be written.
 use Rattle.std.proofs.Common.{take, rules}
 use Rattle.v_frame_y4m.specs.Lax.{strict_line}
 use Rattle.v_frame_y4m.proofs.CleanPieces.{read_is_writable}

@@ -1,4 +1,4 @@
--- One more extension was added.
+-- One more extension was appended.
 use Rattle.std.proofs.Common.{arith}
 use Rattle.std.proofs.lemmas.Grind.{common_steps}
 use Rattle.v_frame_y4m.proofs.line.push_extensions.Goals as goal

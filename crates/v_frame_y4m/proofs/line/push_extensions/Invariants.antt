@@ -1,4 +1,4 @@
--- What was added, and after it what is to be added, is all.
+-- The extensions appended so far, followed by the remaining ones, are all extensions.
 use Rattle.std.proofs.Common.{◌≡◌, ◌++◌, ◌∷◌, drop}
 use Rattle.std.specs.Prelude.{map}
 use Rattle.v_frame_y4m.specs.Ascii.{extension_letter}

@@ -1,4 +1,4 @@
--- The parameters were added in their order.
+-- The parameters were appended in their order.
 use Rattle.std.proofs.Common.{arith}
 use Rattle.std.proofs.lemmas.Grind.{common_steps}
 use Rattle.v_frame_y4m.proofs.line.push_parameters.Goals as goal

@@ -1,4 +1,4 @@
--- One byte was taken, or none at the end.
+-- One byte was read, or none at the end.
 use Rattle.std.proofs.Common.{arith}
 use Rattle.std.proofs.lemmas.Grind.{common_steps}
 use Rattle.v_frame_y4m.proofs.lines.read_byte.Goals as goal

@@ -1,4 +1,4 @@
--- One more byte stands after those that were read.
+-- One more byte follows those that were read.
 use Rattle.std.proofs.Common.{ℕ, ◌≡◌, ◌≢◌, ◌<◌, ◌+◌, List, [], ◌∷◌, ◌++◌, length, take, sym, subst, rules, arith}
 use Rattle.std.proofs.Common.{length-append, length-take}
 use Rattle.std.proofs.lemmas.Grind.{common_steps}

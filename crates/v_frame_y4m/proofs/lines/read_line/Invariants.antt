@@ -1,4 +1,5 @@
--- What was read stands at the front of the buffer, and has no line feed. Nothing has failed.
+-- The bytes that were read are at the front of the buffer and contain no line feed. No read has
+-- failed.
 use Rattle.std.proofs.Common.{◌≡◌, ◌≢◌, ◌≤◌, ◌+◌, ◌-◌, length, take}
 use Rattle.std.specs.Prelude.{All}
 use Rattle.std.specs.Io.KnownBytes.{Consumes}

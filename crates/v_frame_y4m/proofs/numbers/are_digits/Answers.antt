@@ -1,4 +1,4 @@
--- The first byte, and all of them.
+-- The first byte, and all bytes.
 use Rattle.std.proofs.Common.{arith}
 use Rattle.std.proofs.lemmas.Grind.{common_steps}
 use Rattle.v_frame_y4m.proofs.numbers.are_digits.Goals as goal

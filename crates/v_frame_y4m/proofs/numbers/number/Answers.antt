@@ -1,4 +1,4 @@
--- The digits of a number are text.
+-- The digits of a number are valid UTF-8.
 use Rattle.std.proofs.Common.{subst, sym}
 use Rattle.std.specs.Str.{IsUtf8}
 use Rattle.std.proofs.lemmas.Fmt.{IsAscii-decimal}

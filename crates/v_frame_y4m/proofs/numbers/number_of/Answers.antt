@@ -1,4 +1,4 @@
--- What `parse` reads is the text of a number, where it begins as one.
+-- A text that `parse` accepts is the text of a number, if it begins like one.
 use Rattle.std.proofs.Common.{◌≡◌, ◌∙◌, List, ℕ, rules, subst, get_or, length, ◌≢◌}
 use Rattle.std.specs.Prelude.{Ok, Err}
 use Rattle.v_frame_y4m.proofs.NumberTexts.{parsed, written_so}

@@ -1,4 +1,4 @@
--- A ratio is text.
+-- A ratio is valid UTF-8.
 use Rattle.std.proofs.Common.{subst, sym}
 use Rattle.std.specs.Str.{IsUtf8}
 use Rattle.std.proofs.lemmas.Str.{IsUtf8-from_ascii}

@@ -1,4 +1,4 @@
--- A ratio is cut at its colon.
+-- A ratio is split at its colon.
 use Rattle.std.specs.Prelude.{None}
 use Rattle.v_frame_y4m.proofs.NumberTexts.{ratio_from_parts, ratio_is_cut}
 use Rattle.v_frame_y4m.proofs.numbers.ratio_of.Goals as goal

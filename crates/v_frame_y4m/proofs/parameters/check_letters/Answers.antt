@@ -1,4 +1,4 @@
--- One more parameter has a letter.
+-- One more parameter has a known letter.
 use Rattle.std.proofs.Common.{[], arith, rules}
 use Rattle.std.proofs.lemmas.Grind.{common_steps}
 use mathlib.Core.Logic.{inl}

@@ -1,4 +1,4 @@
--- What holds of the rest holds of all.
+-- A property of the remaining parameters is a property of all.
 use Rattle.std.proofs.Common.{drop}
 use Rattle.std.specs.Prelude.{All, Contains, slice_index}
 use Rattle.v_frame_y4m.specs.Header.{letters, texts_of}

@@ -1,4 +1,4 @@
--- What was found, and after it what is to be found among the rest.
+-- The texts found so far, followed by those in the remaining parameters, are all texts.
 use Rattle.std.proofs.Common.{◌≡◌, ◌++◌, ◌∷◌, drop}
 use Rattle.std.specs.Prelude.{map}
 use Rattle.v_frame_y4m.specs.Ascii.{extension_letter}

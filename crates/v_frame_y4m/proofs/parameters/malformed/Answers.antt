@@ -1,4 +1,4 @@
--- The text that was copied is the parameter.
+-- The copied text is the parameter.
 use Rattle.std.proofs.Common.{List, ℕ, subst, sym}
 use Rattle.v_frame_y4m.specs.Faults.{HasFault}
 use Rattle.v_frame_y4m.specs.declared.error.HeaderError.TheVariants.{Malformed}

@@ -1,4 +1,4 @@
--- One more parameter was looked at.
+-- One more parameter has been processed.
 use Rattle.std.proofs.Common.{arith}
 use Rattle.std.proofs.lemmas.Grind.{common_steps}
 use Rattle.v_frame_y4m.proofs.parameters.unique_parameter.Goals as goal

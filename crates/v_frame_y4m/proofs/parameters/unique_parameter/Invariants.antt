@@ -1,4 +1,4 @@
--- What was found, and after it what is to be found among the rest.
+-- The parameter found so far, followed by those among the remaining ones, are all with this letter.
 use Rattle.std.proofs.Common.{◌≡◌, ◌++◌, ◌∷◌, drop}
 use Rattle.std.specs.Prelude.{IfSome}
 use Rattle.v_frame_y4m.specs.Header.{of_letter, parameter_of, texts_of}

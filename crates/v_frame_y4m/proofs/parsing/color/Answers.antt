@@ -1,4 +1,4 @@
--- C may stand once.
+-- C may occur only once.
 use Rattle.std.proofs.Common.{refl, arith, lit<}
 use Rattle.v_frame_y4m.proofs.parsing.color.Goals as goal
 

@@ -1,4 +1,4 @@
--- Each part says its own parameters.
+-- Each part of the header comes from its own parameters.
 use Rattle.std.proofs.Common.{arith}
 use Rattle.std.proofs.lemmas.Grind.{common_steps}
 use Rattle.v_frame_y4m.proofs.parsing.header_of.Goals as goal

@@ -1,4 +1,4 @@
--- I may stand once.
+-- I may occur only once.
 use Rattle.std.proofs.Common.{refl, arith, lit<}
 use Rattle.v_frame_y4m.proofs.parsing.interlacing.Goals as goal
 

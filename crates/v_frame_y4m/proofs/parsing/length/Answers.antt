@@ -1,4 +1,4 @@
--- W and H may stand once.
+-- W and H may occur only once.
 use Rattle.std.proofs.Common.{arith, ◌≡◌, ◌∷◌, List, ℕ, drop, rules, subst, sym}
 use Rattle.std.proofs.lemmas.Grind.{common_steps}
 use Rattle.v_frame_y4m.specs.Faults.{AreDigits}

@@ -1,4 +1,4 @@
--- The line begins as a header does.
+-- The line begins like a header.
 use Rattle.std.proofs.Common.{◌<◌, length, rules, arith}
 use Rattle.std.proofs.lemmas.Grind.{common_steps}
 use Rattle.v_frame_y4m.proofs.HeaderParts.{pieces_begin_part, header_found, header_refused}

@@ -1,4 +1,4 @@
--- F and A may stand once.
+-- F and A may occur only once.
 use Rattle.v_frame_y4m.proofs.Letters.{ratios_once}
 use Rattle.v_frame_y4m.proofs.parsing.rate.Goals as goal
 

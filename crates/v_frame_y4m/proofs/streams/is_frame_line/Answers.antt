@@ -1,4 +1,4 @@
--- A line of a frame is `FRAME`, or goes on after a space.
+-- The line in front of a frame is `FRAME`, or continues after a space.
 use Rattle.std.proofs.Common.{arith}
 use Rattle.std.proofs.lemmas.Grind.{common_steps}
 use Rattle.v_frame_y4m.proofs.streams.is_frame_line.Goals as goal

@@ -1,4 +1,4 @@
--- What stands after the line of a frame, and where its bytes stop.
+-- The bytes after the line in front of a frame, and the position at which reading them fails.
 use Rattle.std.proofs.Common.{arith, [], length, subst}
 use Rattle.std.proofs.lemmas.Grind.{common_steps}
 use Rattle.v_frame.specs.Prelude.{tables_of}

@@ -1,4 +1,4 @@
--- The line is that of a frame, or the reader stood at its end.
+-- The line is one in front of a frame, or the reader was at its end.
 use Rattle.std.proofs.Common.{arith}
 use Rattle.std.proofs.lemmas.Grind.{common_steps}
 use Rattle.v_frame_y4m.proofs.streams.read_frame_line.Goals as goal

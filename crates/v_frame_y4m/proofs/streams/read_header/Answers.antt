@@ -1,4 +1,4 @@
--- What was read from a line can be written.
+-- A header that was read from a line can be written.
 use Rattle.std.proofs.Common.{arith, rules}
 use Rattle.std.proofs.lemmas.Grind.{common_steps}
 use Rattle.v_frame_y4m.proofs.CleanPieces.{read_is_writable}

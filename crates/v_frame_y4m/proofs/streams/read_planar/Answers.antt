@@ -1,4 +1,4 @@
--- What `read_frame` left, or that it found nothing.
+-- The effect of `read_frame`, or the error of a stream that ended after the line.
 use Rattle.std.proofs.Common.{arith}
 use Rattle.std.proofs.lemmas.Grind.{common_steps}
 use Rattle.v_frame_y4m.proofs.streams.read_planar.Goals as goal

@@ -1,4 +1,4 @@
--- What was written is a beginning of the line and the planar bytes.
+-- The written bytes are a beginning of the line and the planar bytes.
 use Rattle.std.proofs.Common.{arith, rules}
 use Rattle.std.proofs.lemmas.Grind.{common_steps}
 use Rattle.std.specs.Prelude.{codes}

@@ -1,4 +1,4 @@
--- What was written is a beginning of the line.
+-- The written bytes are a beginning of the line.
 use Rattle.std.proofs.Common.{arith, ℕ, List, [], ◌∷◌, ◌++◌, ◌∙◌, subst}
 use Rattle.std.proofs.lemmas.Grind.{common_steps}
 use mathlib.Core.Logic.{inr}

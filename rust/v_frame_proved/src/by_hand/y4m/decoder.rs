@@ -1,4 +1,4 @@
-//! Streams read from any reader.
+//! Reads streams from any reader.
 
 use super::frame::{show, with_frame};
 use super::kept::Kept;
@@ -10,13 +10,14 @@ use core::fmt;
 use core::iter::FusedIterator;
 use std::io::{self, Read as _};
 
-/// How much room is taken for the first bytes of a frame, at most. It grows as they come, so that a header alone takes none.
+/// The largest number of bytes that are allocated before the first byte of a frame is read. The buffer grows while bytes are
+/// read, so that a header alone cannot cause a large allocation.
 const FIRST_ROOM: usize = 1 << 20;
 
-/// The line in front of a frame as most writers have it. None is shorter.
+/// The line in front of a frame without parameters. No valid line is shorter.
 const PLAIN_LINE: [u8; 6] = *b"FRAME\n";
 
-/// Where a stream is read on.
+/// The state of a stream.
 #[derive(Debug, Clone, Copy)]
 enum State {
     InFrontOfFrame,
@@ -24,12 +25,12 @@ enum State {
     Failed,
 }
 
-/// Reads a y4m stream: the header, and then the frames, as an iterator that gives each in planes of its own, or by
-/// [`read_into`](Self::read_into) into one frame again and again. After an error the iterator ends.
+/// Reads a YUV4MPEG2 stream: the header first, and then the frames. As an iterator, it returns each frame in new planes.
+/// [`read_into`](Self::read_into) reads each frame into the same planes instead. After an error the iterator ends.
 ///
-/// Written by hand. Lines may be those of lax writers, as [`strict_line`](super::strict_line) has them; parameters after
-/// `FRAME` are passed over. Interrupted reads are tried again. All frames go through one buffer, and nothing after a frame is
-/// read with it. The header is read byte by byte, and each frame by two reads, so a `BufReader` is of little use.
+/// This type is written by hand. Lax lines are accepted as [`strict_line`](super::strict_line) describes, and parameters after
+/// `FRAME` are ignored. Interrupted reads are retried. All frames go through one buffer, and no byte after a frame is read with
+/// it. The header is read byte by byte, and each frame with two reads, so a `BufReader` is of little use.
 ///
 /// ```
 /// use v_frame_proved::y4m::{Decoder, VideoFrame};
@@ -59,8 +60,9 @@ impl<R: io::Read> Decoder<R> {
     ///
     /// # Errors
     ///
-    /// [`StreamError::Empty`] where the reader has no byte, [`StreamError::Format`] where the line was refused, a frame would
-    /// be too large or a request for memory was refused, and [`StreamError::Io`] where a read failed.
+    /// - [`StreamError::Empty`] if the reader has no bytes.
+    /// - [`StreamError::Format`] if the header line is rejected, if its frames are too large, or if a memory allocation fails.
+    /// - [`StreamError::Io`] if a read fails.
     pub fn new(reader: R) -> Result<Self, StreamError> {
         let mut reader = Kept::new(reader);
         let mut first = [0];
@@ -80,15 +82,19 @@ impl<R: io::Read> Decoder<R> {
         })
     }
 
-    /// Reads the next frame into one that is there, and keeps its border. `false` where the stream ends in front of the line
-    /// of a frame.
+    /// Reads the next frame into an existing frame, whose padding is unchanged. Returns `false` if the stream has no more
+    /// frames.
     ///
     /// # Errors
     ///
-    /// [`StreamError::Mismatch`] where the frame has another size, format, depth or pixel type than the header says: then
-    /// nothing was read. [`StreamError::Format`] where another line stands in front of the frame or a request for memory was
-    /// refused, [`StreamError::Truncated`] where the stream ends inside the frame, and [`StreamError::Io`] where a read
-    /// failed: after these each later call is [`StreamError::AfterFailure`]. After each of them the frame is as it was.
+    /// - [`StreamError::Mismatch`] if the size, the format, the bit depth or the pixel type of `frame` differs from the header.
+    ///   Nothing was read then.
+    /// - [`StreamError::Format`] if the line in front of the frame is not valid, or if a memory allocation fails.
+    /// - [`StreamError::Truncated`] if the stream ends inside the frame.
+    /// - [`StreamError::Io`] if a read fails.
+    /// - [`StreamError::AfterFailure`] if an earlier call failed with `Format`, `Truncated` or `Io`.
+    ///
+    /// After an error, `frame` is unchanged.
     pub fn read_into(&mut self, frame: &mut VideoFrame) -> Result<bool, StreamError> {
         if matches!(self.state, State::Failed) {
             return Err(StreamError::AfterFailure);
@@ -103,7 +109,7 @@ impl<R: io::Read> Decoder<R> {
         Ok(more)
     }
 
-    /// Reads the next frame into planes of its own, whose room is taken when all bytes have come.
+    /// Reads the next frame into new planes. They are allocated after all bytes have been read.
     fn read_frame(&mut self) -> Result<Option<VideoFrame>, StreamError> {
         if !self.read_bytes()? {
             return Ok(None);
@@ -133,7 +139,7 @@ impl<R: io::Read> Decoder<R> {
         Ok(true)
     }
 
-    /// Fills the buffer, which grows to the length of a frame as bytes come, and returns how many there were.
+    /// Fills the buffer, which grows to the length of a frame while bytes are read, and returns the number of bytes read.
     fn fill_buffer(&mut self) -> Result<usize, StreamError> {
         let mut found = 0;
         while found < self.frame_len {
@@ -153,21 +159,21 @@ impl<R: io::Read> Decoder<R> {
 }
 
 impl<R> Decoder<R> {
-    /// Returns what the header line says.
+    /// Returns the header.
     #[inline]
     #[must_use]
     pub fn header(&self) -> &StreamHeader {
         &self.header
     }
 
-    /// Returns whether the header line is strict, and does not merely stand for a strict one.
+    /// Returns whether the header line was strict. If not, it was a lax line with a clear meaning.
     #[inline]
     #[must_use]
     pub fn is_strict(&self) -> bool {
         self.is_strict
     }
 
-    /// Returns the reader. Where no call failed, it stands in front of the line of a frame, or at its end.
+    /// Returns the reader. If no call has failed, the reader is in front of the line of a frame, or at its end.
     #[inline]
     #[must_use]
     pub fn into_inner(self) -> R {
@@ -188,19 +194,20 @@ impl<R: io::Read> Iterator for Decoder<R> {
 
 impl<R: io::Read> FusedIterator for Decoder<R> {}
 
-/// The header, without the bytes of a frame.
+/// Shows the header, without the bytes of a frame.
 impl<R> fmt::Debug for Decoder<R> {
     fn fmt(&self, f: &mut fmt::Formatter<'_>) -> fmt::Result {
         f.debug_struct("Decoder").field("header", &self.header).finish_non_exhaustive()
     }
 }
 
-/// Fills a buffer by a proved call, and returns how much of it there was.
+/// Fills a buffer with a proved function, and returns the number of bytes read.
 fn fill<R: io::Read>(reader: &mut Kept<R>, bytes: &mut [u8]) -> Result<usize, PlanarError> {
     read_until_full(&mut Counted::new(reader), bytes)
 }
 
-/// Reads the line in front of a frame: at once where it is the plain one, and else by the call that reads any.
+/// Reads the line in front of a frame. A line without parameters is read with one call, and any other line with a proved
+/// function.
 fn read_line<R: io::Read>(reader: &mut Kept<R>) -> Result<bool, Y4mError> {
     let mut line = [0; PLAIN_LINE.len()];
     let found = fill(reader, &mut line)?;

@@ -1,4 +1,4 @@
-//! Streams written to any writer.
+//! Writes streams to any writer.
 
 use super::frame::{is_frame_of, with_frame};
 use super::kept::Kept;
@@ -10,10 +10,10 @@ use crate::planar::{Counted, PlanarError};
 use core::fmt;
 use std::io::{self, Write as _};
 
-/// Writes a y4m stream: the header, and then frame by frame.
+/// Writes a YUV4MPEG2 stream: the header first, and then frame by frame.
 ///
-/// Written by hand. Interrupted writes are tried again. Samples are written as they are, also those above the largest value of
-/// their depth. [`finish`](Self::finish) flushes the writer; a `BufWriter` saves one short write a frame.
+/// This type is written by hand. Interrupted writes are retried. Samples are written unchanged, even those above the largest
+/// value of their bit depth. [`finish`](Self::finish) flushes the writer. A `BufWriter` saves one short write for each frame.
 pub struct Encoder<W> {
     writer: Kept<W>,
     header: StreamHeader,
@@ -21,12 +21,13 @@ pub struct Encoder<W> {
 }
 
 impl<W: io::Write> Encoder<W> {
-    /// Writes the line of a header.
+    /// Writes the header line.
     ///
     /// # Errors
     ///
-    /// [`StreamError::UnwritableHeader`], and [`StreamError::Format`] where a request for memory was refused: for these
-    /// nothing was written. [`StreamError::Io`] where a write failed or took nothing.
+    /// - [`StreamError::UnwritableHeader`] if no valid line can state `header`. Nothing was written then.
+    /// - [`StreamError::Format`] if a memory allocation fails. Nothing was written then.
+    /// - [`StreamError::Io`] if a write fails or accepts no bytes.
     pub fn new(writer: W, header: StreamHeader) -> Result<Self, StreamError> {
         let line = header_line(&header).map_err(Y4mError::from)?;
         if !header.is_writable() || line.len() > MAX_LINE_BYTES {
@@ -37,18 +38,19 @@ impl<W: io::Write> Encoder<W> {
         Ok(Encoder { writer, header, has_failed: false })
     }
 
-    /// Writes a frame, without its border.
+    /// Writes a frame, without its padding.
     ///
     /// # Errors
     ///
-    /// [`StreamError::Mismatch`] where the frame has another size, format, depth or pixel type than the header says: then
-    /// nothing was written. [`StreamError::Io`] where a write failed or took nothing: after it each later call is
-    /// [`StreamError::AfterFailure`].
+    /// - [`StreamError::Mismatch`] if the size, the format, the bit depth or the pixel type of `frame` differs from the header.
+    ///   Nothing was written then.
+    /// - [`StreamError::Io`] if a write fails or accepts no bytes.
+    /// - [`StreamError::AfterFailure`] if an earlier write failed.
     pub fn write_frame(&mut self, frame: &VideoFrame) -> Result<(), StreamError> {
         with_frame!(frame, frame => self.write(frame))
     }
 
-    /// Writes a frame of either pixel type, as [`write_frame`](Self::write_frame) does.
+    /// Writes a frame of either pixel type, like [`write_frame`](Self::write_frame).
     ///
     /// ```
     /// use v_frame_proved::chroma::ChromaSubsampling;
@@ -64,7 +66,7 @@ impl<W: io::Write> Encoder<W> {
     ///
     /// # Errors
     ///
-    /// Those of [`write_frame`](Self::write_frame).
+    /// The errors of [`write_frame`](Self::write_frame).
     pub fn write<T: Pixel>(&mut self, frame: &Frame<T>) -> Result<(), StreamError> {
         if self.has_failed {
             return Err(StreamError::AfterFailure);
@@ -77,11 +79,12 @@ impl<W: io::Write> Encoder<W> {
         written
     }
 
-    /// Flushes the writer, and returns it.
+    /// Flushes the writer and returns it.
     ///
     /// # Errors
     ///
-    /// [`StreamError::AfterFailure`] where an earlier write failed, and [`StreamError::Io`] where the flush does.
+    /// - [`StreamError::AfterFailure`] if an earlier write failed.
+    /// - [`StreamError::Io`] if the flush fails.
     pub fn finish(mut self) -> Result<W, StreamError> {
         if self.has_failed {
             return Err(StreamError::AfterFailure);
@@ -90,7 +93,7 @@ impl<W: io::Write> Encoder<W> {
         Ok(self.writer.inner)
     }
 
-    /// Returns what the header line says.
+    /// Returns the header.
     #[inline]
     #[must_use]
     pub fn header(&self) -> &StreamHeader {
@@ -98,7 +101,7 @@ impl<W: io::Write> Encoder<W> {
     }
 }
 
-/// The header, without the writer.
+/// Shows the header, without the writer.
 impl<W> fmt::Debug for Encoder<W> {
     fn fmt(&self, f: &mut fmt::Formatter<'_>) -> fmt::Result {
         f.debug_struct("Encoder").field("header", &self.header).finish_non_exhaustive()

@@ -1,4 +1,4 @@
-//! Why a decoder gave no frame, or an encoder wrote none.
+//! Errors of decoders and encoders.
 
 use crate::frame::FrameError;
 use crate::generated::v_frame_y4m::Y4mError;
@@ -7,27 +7,27 @@ use core::error::Error;
 use core::fmt;
 use std::io;
 
-/// Why a [`Decoder`](super::Decoder) or an [`Encoder`](super::Encoder) gave up. Written by hand.
+/// Why a [`Decoder`](super::Decoder) or an [`Encoder`](super::Encoder) failed. This type is written by hand.
 #[derive(Debug)]
 #[non_exhaustive]
 pub enum StreamError {
-    /// The stream has no byte at all.
+    /// The stream has no bytes at all.
     Empty,
-    /// A line is not what the format has there, a frame is too large, or a request for memory was refused.
+    /// A line is not valid, the frames are too large, or a memory allocation failed.
     Format(Y4mError),
-    /// The stream ends inside a frame.
+    /// The stream ended inside a frame.
     Truncated {
-        /// How many bytes a frame has after its line.
+        /// The number of bytes of a frame after its line.
         expected: usize,
-        /// How many there were.
+        /// The number of bytes that were read.
         found: usize,
     },
-    /// No line that a reader takes has what the header says: a size is 0, an extension has a space or a line feed, or the
-    /// line is longer than 1024 bytes.
+    /// No valid line can state the header: the width or the height is 0, an extension contains a space or a line feed, or the
+    /// line would be longer than 1024 bytes.
     UnwritableHeader,
-    /// The frame has another size, format, bit depth or pixel type than the header says. Nothing was read or written.
+    /// The size, the format, the bit depth or the pixel type of the frame differs from the header. Nothing was read or written.
     Mismatch,
-    /// A read or a write failed. The cause is the `source`.
+    /// A read or a write failed. The error's `source` is the cause.
     Io(io::Error),
     /// An earlier call failed inside a frame.
     AfterFailure,

@@ -1,4 +1,4 @@
-//! Frames of either pixel type, as streams have them.
+//! Frames of either pixel type.
 
 use super::StreamHeader;
 use crate::chroma::ChromaSubsampling;
@@ -10,7 +10,7 @@ use crate::planar::subsample_ratio_or_one;
 use crate::plane::Plane;
 use crate::quality::{FramePsnr, MeasureError, frame_mean_squared_error, frame_psnr, frame_ssim};
 
-/// A frame of a stream, of whichever pixel type its bit depth asks for. Written by hand.
+/// A frame of a stream, with the pixel type that its bit depth requires. This type is written by hand.
 ///
 /// ```
 /// use v_frame_proved::chroma::ChromaSubsampling;
@@ -31,13 +31,13 @@ use crate::quality::{FramePsnr, MeasureError, frame_mean_squared_error, frame_ps
 /// ```
 #[derive(Debug, Clone, PartialEq, Eq)]
 pub enum VideoFrame {
-    /// A frame of 8 bits.
+    /// A frame with 8 bits per sample.
     EightBits(Frame<u8>),
-    /// A frame of 9 to 16 bits.
+    /// A frame with 9 to 16 bits per sample.
     HighDepth(Frame<u16>),
 }
 
-/// Does the same with a frame of either pixel type.
+/// Evaluates an expression for a frame of either pixel type.
 macro_rules! with_frame {
     ($video:expr, $frame:ident => $result:expr) => {
         match $video {
@@ -48,7 +48,7 @@ macro_rules! with_frame {
 }
 pub(super) use with_frame;
 
-/// Measures two frames of one pixel type.
+/// Measures two frames of the same pixel type.
 macro_rules! measure {
     ($measure:ident, $a:expr, $b:expr) => {
         match ($a, $b) {
@@ -60,15 +60,15 @@ macro_rules! measure {
 }
 
 impl VideoFrame {
-    /// Returns a frame without a border as a stream of this header has them, zero in every pixel.
+    /// Allocates a frame without padding that fits the streams of this header, with all pixels zero.
     ///
-    /// It takes room for the size that the header says, and a stranger's header line can say any: test the product of its sides
-    /// first, say against [`MAX_PIXELS`](crate::streams::MAX_PIXELS). The frames that a [`Decoder`](super::Decoder) gives as an
-    /// iterator take room only when all their bytes have come.
+    /// The header of an untrusted stream can state any size, so test the product of its width and its height first, for example
+    /// against [`MAX_PIXELS`](crate::streams::MAX_PIXELS). The iterator of a [`Decoder`](super::Decoder) needs no such test: it
+    /// allocates a frame only after it has read all its bytes.
     ///
     /// # Errors
     ///
-    /// Those of [`StreamHeader::frame`], without `DataTypeMismatch`.
+    /// The errors of [`StreamHeader::frame`], except for `DataTypeMismatch`.
     pub fn blank(header: &StreamHeader) -> Result<Self, FrameError> {
         if header.color.bit_depth() == 8 {
             header.frame(0).map(VideoFrame::EightBits)
@@ -77,71 +77,71 @@ impl VideoFrame {
         }
     }
 
-    /// Returns the visible width of luma in pixels.
+    /// Returns the visible width of the luma plane in pixels.
     #[inline]
     #[must_use]
     pub fn width(&self) -> usize {
         with_frame!(self, frame => frame.width())
     }
 
-    /// Returns the visible height of luma in pixels.
+    /// Returns the visible height of the luma plane in pixels.
     #[inline]
     #[must_use]
     pub fn height(&self) -> usize {
         with_frame!(self, frame => frame.height())
     }
 
-    /// Returns the bits of a sample.
+    /// Returns the number of bits of a sample.
     #[inline]
     #[must_use]
     pub fn bit_depth(&self) -> u8 {
         with_frame!(self, frame => frame.bit_depth.get())
     }
 
-    /// Returns the chroma format.
+    /// Returns the chroma subsampling.
     #[inline]
     #[must_use]
     pub fn subsampling(&self) -> ChromaSubsampling {
         with_frame!(self, frame => frame.subsampling)
     }
 
-    /// Returns a copy of a rectangle, as [`Frame::crop`] does.
+    /// Returns a copy of a rectangle of the frame, like [`Frame::crop`].
     ///
     /// # Errors
     ///
-    /// Those of [`Frame::crop`].
+    /// The errors of [`Frame::crop`].
     pub fn crop(&self, x: usize, y: usize, width: usize, height: usize) -> Result<Self, CropError> {
         with_frame!(self, frame => frame.crop(x, y, width, height).map(Self::from))
     }
 
-    /// Returns the mean squared errors beside another frame, as [`frame_mean_squared_error`] does.
+    /// Returns the mean squared errors of this frame and `other`, like [`frame_mean_squared_error`].
     ///
     /// # Errors
     ///
-    /// Those of [`frame_mean_squared_error`]. Frames of two pixel types have two depths.
+    /// The errors of [`frame_mean_squared_error`]. Frames of different pixel types have different bit depths.
     pub fn mean_squared_error(&self, other: &Self) -> Result<FrameMeasure, MeasureError> {
         measure!(frame_mean_squared_error, self, other)
     }
 
-    /// Returns the peak signal-to-noise ratios beside another frame, as [`frame_psnr`] does.
+    /// Returns the peak signal-to-noise ratios of this frame and `other`, like [`frame_psnr`].
     ///
     /// # Errors
     ///
-    /// Those of [`frame_psnr`]. Frames of two pixel types have two depths.
+    /// The errors of [`frame_psnr`]. Frames of different pixel types have different bit depths.
     pub fn psnr(&self, other: &Self) -> Result<FramePsnr, MeasureError> {
         measure!(frame_psnr, self, other)
     }
 
-    /// Returns the structural similarities beside another frame, as [`frame_ssim`] does.
+    /// Returns the structural similarities of this frame and `other`, like [`frame_ssim`].
     ///
     /// # Errors
     ///
-    /// Those of [`frame_ssim`]. Frames of two pixel types have two depths.
+    /// The errors of [`frame_ssim`]. Frames of different pixel types have different bit depths.
     pub fn ssim(&self, other: &Self) -> Result<FrameMeasure, MeasureError> {
         measure!(frame_ssim, self, other)
     }
 
-    /// Returns whether it is a frame of a stream of this header.
+    /// Returns whether the frame fits the streams of this header.
     pub(super) fn fits(&self, header: &StreamHeader) -> bool {
         with_frame!(self, frame => is_frame_of(frame, header))
     }
@@ -161,14 +161,14 @@ impl From<Frame<u16>> for VideoFrame {
     }
 }
 
-/// Returns whether a frame has the format and the bit depth of a header, and each plane its size.
+/// Returns whether the frame has the format, the bit depth and the plane sizes of a header.
 pub(super) fn is_frame_of<T: Pixel>(frame: &Frame<T>, header: &StreamHeader) -> bool {
     let size = |plane: &Plane<T>| (plane.width(), plane.height());
     let (columns, rows) = subsample_ratio_or_one(frame.subsampling);
     let chroma = (header.width.div_ceil(columns), header.height.div_ceil(rows));
     let chroma = frame.subsampling.has_chroma().then_some(chroma);
     let depth = frame.bit_depth.get();
-    // Both pixel types have depths of their own.
+    // The two pixel types have no bit depth in common.
     depth == header.color.bit_depth()
         && (size_of::<T>() == 1) == (depth == 8)
         && frame.subsampling == header.color.subsampling()
@@ -177,7 +177,7 @@ pub(super) fn is_frame_of<T: Pixel>(frame: &Frame<T>, header: &StreamHeader) -> 
         && frame.v_plane.as_ref().map(size) == chroma
 }
 
-/// Shows planar bytes, as many as the frame has.
+/// Stores planar bytes in a frame. Their number must be that of the frame.
 pub(super) fn show<T: Pixel>(frame: &mut Frame<T>, bytes: &[u8]) {
     let mut rest = bytes;
     for plane in frame.planes_mut() {

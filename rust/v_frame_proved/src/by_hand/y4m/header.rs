@@ -1,12 +1,12 @@
-//! Headers made and changed by programs.
+//! Creates and changes headers.
 
 use super::{Color, StreamHeader};
 use alloc::vec::Vec;
 use core::mem;
 
-/// These calls are written by hand, and not made from proved sources.
+/// These methods are written by hand and not generated from proved sources.
 impl StreamHeader {
-    /// Returns a header that says a size in pixels and a color, and nothing else.
+    /// Returns a header that states only a size in pixels and a color.
     #[must_use]
     pub fn new(width: usize, height: usize, color: Color) -> Self {
         StreamHeader {
@@ -20,7 +20,7 @@ impl StreamHeader {
         }
     }
 
-    /// Sets the color, and drops the extensions `XYSCSS=..`, by which ffmpeg says the old one once more.
+    /// Sets the color. Extensions of the form `XYSCSS=..`, in which ffmpeg repeats the old color, are removed.
     pub fn set_color(&mut self, color: Color) {
         self.color = color;
         let mut extensions = mem::replace(&mut self.extensions, Vec::new().into()).into_vec();

@@ -1,4 +1,4 @@
-//! Readers and writers that try again where they are interrupted, and keep the cause where they fail.
+//! Readers and writers that retry interrupted calls and keep the cause of a failure.
 
 use super::{StreamError, Y4mError};
 use std::io;
@@ -14,7 +14,7 @@ impl<D> Kept<D> {
         Kept { inner, failure: None }
     }
 
-    /// Makes a proved call, which knows kinds of failures alone, and returns its answer with the cause.
+    /// Calls a proved function, which knows only the kind of a failure, and adds the cause to its error.
     pub(super) fn call<A, E: Into<Y4mError>>(
         &mut self,
         call: impl FnOnce(&mut Self) -> Result<A, E>,
@@ -25,7 +25,7 @@ impl<D> Kept<D> {
         })
     }
 
-    /// Returns what a call answers, tried again while it is interrupted. A failure is kept, and its kind goes on.
+    /// Returns the result of a call, which is retried while it is interrupted. A failure is kept, and its kind is returned.
     fn tried<A>(&mut self, mut call: impl FnMut(&mut D) -> io::Result<A>) -> io::Result<A> {
         loop {
             match call(&mut self.inner) {

@@ -1,4 +1,4 @@
-//! YUV4MPEG2 streams: raw planar video after a header line that says its size, its rate and its color.
+//! YUV4MPEG2 streams: raw planar video after a header line that states the size, the frame rate and the color.
 //!
 //! ```text
 //! YUV4MPEG2 W176 H144 F25:1 Ip A1:1 C420jpeg XYSCSS=420JPEG    the header line
@@ -6,9 +6,9 @@
 //! ...                                                          the planar bytes: Y, then U, then V
 //! ```
 //!
-//! A [`Decoder`] reads the frames of any reader, and an [`Encoder`] writes frames to any writer. Both, [`VideoFrame`],
-//! [`StreamError`] and the calls that make and change a [`StreamHeader`] are written by hand. Everything else in this module is
-//! made from proved sources, and does the work for these: it reads and writes the lines and the pixels.
+//! A [`Decoder`] reads frames from any reader, and an [`Encoder`] writes frames to any writer. These two types, [`VideoFrame`],
+//! [`StreamError`] and the methods that create and change a [`StreamHeader`] are written by hand. Everything else in this
+//! module is generated from proved sources, including the functions that read and write the lines and the pixels.
 //!
 //! ```
 //! use v_frame_proved::y4m::{Decoder, Encoder};

@@ -1,4 +1,4 @@
--- At the end no byte is ahead.
+-- At the end no byte is left.
 use Rattle.std.proofs.Common.{sym, ◌∙◌, arith}
 use Rattle.std.specs.Prelude.{fold}
 use Rattle.std.proofs.lemmas.List.{at_drop_all}

@@ -1,4 +1,4 @@
--- The bytes ahead lead to where all bytes lead.
+-- Dividing the remaining bytes gives the remainder of all bytes.
 use Rattle.std.proofs.Common.{◌≡◌, length, drop}
 use Rattle.std.specs.Prelude.{fold}
 use Rattle.v_frame_bytes.specs.Crc.{crc_step}

@@ -1,4 +1,4 @@
--- The byte meets the lowest byte of what is left.
+-- The byte is added to the lowest byte of the remainder.
 use Rattle.std.proofs.Common.{◌/◌, sym, ap, ◌∙◌}
 use Rattle.std.specs.Prelude.{bit_xor}
 use Rattle.v_frame_bytes.proofs.CrcSteps.{byte_step}

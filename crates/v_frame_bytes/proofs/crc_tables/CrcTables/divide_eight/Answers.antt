@@ -1,4 +1,4 @@
--- Eight bytes are divided apart from one another.
+-- Eight bytes are divided separately.
 use Rattle.std.proofs.Common.{ℕ, ◌≡◌, ◌+◌, ◌*◌, ◌<◌, List, [], ◌∷◌, length, get_or, refl, sym, ap, ◌∙◌, arith}
 use Rattle.std.specs.Prelude.{fold}
 use Rattle.std.specs.Int.Bits.{xor_assoc}

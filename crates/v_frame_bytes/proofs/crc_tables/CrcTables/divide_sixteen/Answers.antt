@@ -1,4 +1,4 @@
--- What is left of the first half meets what is left of the second.
+-- The remainder of the first half is added to that of the second.
 use Rattle.std.proofs.Common.{◌≡◌, ◌++◌, ◌*◌, length, sym, ap, ◌∙◌, arith, take-append-drop}
 use Rattle.std.specs.Prelude.{bit_xor, fold}
 use Rattle.std.specs.Int.Bits.{xor_zero_r}

@@ -1,4 +1,4 @@
--- One more entry is made.
+-- One more entry is computed.
 use Rattle.std.proofs.Common.{ℕ, ◌≡◌, ◌+◌, ◌-◌, ◌*◌, ◌/◌, ◌%◌, ◌<◌, length, get_or, sym, ap, ◌∙◌, arith}
 use Rattle.std.proofs.Common.{get_or-set_other, get_or-set_same, below_more, ◌≢◌, length-set}
 use Rattle.std.specs.Prelude.{bit_xor}
@@ -7,7 +7,7 @@ use Rattle.v_frame_bytes.specs.Crc.{divided, crc_step}
 use Rattle.v_frame_bytes.proofs.CrcSteps.{byte_step, divided-add}
 use Rattle.v_frame_bytes.proofs.crc_tables.CrcTables.new.Goals as goal
 
--- eight steps more of what is left of a byte
+-- Eight more steps for the remainder of a byte.
 eight_more : (rest : ℕ) → divided 8 rest ≡ bit_xor (rest / 256) (divided 8 (rest % 256))
 unfolding crc_step
 eight_more rest =

@@ -1,4 +1,4 @@
--- The entries before are made.
+-- The entries so far are computed.
 use Rattle.std.proofs.Common.{ℕ, ◌≡◌, ◌+◌, ◌*◌, ◌/◌, ◌%◌, ◌<◌, get_or, length}
 use Rattle.v_frame_bytes.specs.Crc.{divided}
 use Rattle.v_frame_bytes.proofs.crc_tables.CrcTables.new.Given as goal

@@ -1,4 +1,4 @@
--- One more run stands after what was encoded before.
+-- One more run follows the encoded ones.
 use Rattle.std.proofs.Common.{◌≡◌, ◌+◌, ◌-◌, ◌*◌, ◌++◌, length, take, ◌∙◌, append_assoc, rules, arith}
 use Rattle.std.proofs.lemmas.Grind.{common_steps}
 use Rattle.v_frame_planar.specs.Pending.{pixels_behind}

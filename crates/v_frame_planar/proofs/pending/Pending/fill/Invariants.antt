@@ -1,4 +1,4 @@
--- What was encoded, and after it what is still to be, are the bytes of all.
+-- The encoded bytes, followed by the bytes of the remaining pixels, are the bytes of all pixels.
 use Rattle.std.proofs.Common.{◌≡◌, ◌+◌, ◌≤◌, ◌++◌, length, take}
 use Rattle.v_frame.specs.Prelude.{bytes_of_pixels}
 use Rattle.v_frame_planar.specs.Pending.{pixels_pending, rows_behind}

@@ -1,4 +1,4 @@
--- The row that is given stood in front of all others.
+-- The row that is returned was the first of all remaining rows.
 use Rattle.std.proofs.Common.{arith}
 use Rattle.std.proofs.lemmas.Grind.{common_steps}
 use Rattle.v_frame_planar.proofs.pending.Pending.next_row.Goals as goal

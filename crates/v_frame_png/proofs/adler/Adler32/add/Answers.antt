@@ -1,4 +1,4 @@
--- What was added and reduced counts as before.
+-- Sums that were reduced are congruent to the sums before.
 use Rattle.std.proofs.Common.{◌∙◌, take-append-drop}
 use Rattle.v_frame_png.proofs.AdlerSteps.{reduced_more}
 use Rattle.v_frame_png.proofs.adler.Adler32.add.Goals as goal

@@ -1,4 +1,4 @@
--- The bytes ahead lead to where all bytes lead.
+-- Adding the remaining bytes gives the sums of all bytes.
 use Rattle.std.proofs.Common.{◌≡◌, length}
 use Rattle.v_frame_png.specs.Adler.{reduced, sums_from}
 use Rattle.v_frame_png.proofs.adler.Adler32.add.Given as goal

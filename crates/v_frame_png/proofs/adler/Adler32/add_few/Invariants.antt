@@ -1,4 +1,4 @@
--- The sums over the bytes so far, and how large they can be.
+-- The sums of the bytes so far, and upper bounds of them.
 use Rattle.std.proofs.Common.{◌≡◌, ◌+◌, ◌*◌, ◌≤◌, take}
 use Rattle.v_frame_png.specs.Adler.{sums_from}
 use Rattle.v_frame_png.proofs.adler.Adler32.add_few.Given as goal

@@ -1,4 +1,4 @@
--- Where the second plane has no row left, none of the first is by turns with one.
+-- If the second plane has no row left, interleaving the rows that are left gives nothing.
 use Rattle.std.proofs.Common.{arith}
 use Rattle.std.proofs.lemmas.Grind.{common_steps}
 use Rattle.v_frame_semi_planar.specs.Interleaved.{interleaved}

@@ -1,4 +1,4 @@
--- The pixels that were encoded come before those that are left.
+-- The encoded pixels come before those that are left.
 use Rattle.std.proofs.Common.{◌≡◌, ◌*◌, ◌<◌, length, take, refl, rules}
 use Rattle.v_frame_semi_planar.specs.Interleaved.{interleaved}
 use Rattle.v_frame_semi_planar.specs.SemiPlanar.{stored_bytes}

@@ -1,4 +1,4 @@
--- One of the two chroma rows that were begun is at its end.
+-- One of the two current chroma rows is at its end.
 use Rattle.std.proofs.Common.{arith}
 use Rattle.std.proofs.lemmas.Bool.Decides.{nat_tests}
 use Rattle.v_frame_semi_planar.proofs.Encoded.{no_first_turn, no_second_turn}

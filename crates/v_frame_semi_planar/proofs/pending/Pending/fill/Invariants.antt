@@ -1,4 +1,4 @@
--- What was encoded, and after it what is still to be, are the bytes of all.
+-- The encoded bytes, followed by the bytes of the remaining samples, are the bytes of all samples.
 use Rattle.std.proofs.Common.{◌≡◌, ◌≤◌, ◌++◌, length, take}
 use Rattle.v_frame_semi_planar.specs.Pending.{pixels_pending, steps_pending}
 use Rattle.v_frame_semi_planar.specs.SemiPlanar.{stored_bytes}

@@ -1,4 +1,4 @@
--- Each row of the source is taken apart into a row of each buffer.
+-- Each row of the source is split into a row of each buffer.
 use Rattle.std.proofs.Common.{◌≡◌, ◌+◌, ◌-◌, ◌*◌, ◌<◌, length, drop, Some, sym, ◌∙◌, ap, arith}
 use Rattle.std.proofs.Common.{length-take-le, length-drop}
 use Rattle.v_frame.specs.Prelude.{RowsFit, strided_rows}

@@ -1,4 +1,4 @@
--- The rows so far are those of the source taken apart, and all else is as it was.
+-- The rows so far are those of the source, split, and all other entries are unchanged.
 use Rattle.v_frame.specs.Prelude.{strided_rows, KeepsRest}
 use Rattle.v_frame_semi_planar.proofs.Interleaving.{ApartBelow}
 use Rattle.v_frame_semi_planar.proofs.rows.chroma.deinterleave.Given as goal

@@ -1,4 +1,4 @@
--- The row is by turns what the two became.
+-- The row is the two results, interleaved.
 use Rattle.std.proofs.Common.{◌*◌, sym, ◌∙◌, ap, arith}
 use Rattle.v_frame_semi_planar.proofs.Interleaving.{by_turns}
 use Rattle.v_frame_semi_planar.proofs.rows.chroma.deinterleave_pixels.Goals as goal

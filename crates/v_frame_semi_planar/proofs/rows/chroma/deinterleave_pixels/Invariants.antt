@@ -1,4 +1,4 @@
--- The pixels so far are those of the row by turns.
+-- The pixels so far, interleaved, are those of the row.
 use Rattle.v_frame_semi_planar.proofs.Interleaving.{ByTurnsBelow}
 use Rattle.v_frame_semi_planar.proofs.rows.chroma.deinterleave_pixels.Given as goal
 

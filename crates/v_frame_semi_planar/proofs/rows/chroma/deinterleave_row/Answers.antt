@@ -1,4 +1,4 @@
--- The blocks and the rest are the row.
+-- The blocks and the remaining pixels are the row.
 use Rattle.std.proofs.Common.{◌≡◌, ◌*◌, ◌++◌, length, take, drop, refl, sym, ◌∙◌, arith}
 use Rattle.std.proofs.lemmas.List.{take-append-drop}
 use Rattle.v_frame_semi_planar.specs.Interleaved.{interleaved}

@@ -1,4 +1,4 @@
--- Each row is written with those of the two by turns.
+-- Each row that is written is the two rows, interleaved.
 use Rattle.std.proofs.Common.{◌≡◌, ◌+◌, ◌-◌, ◌*◌, ◌<◌, length, drop, Some, sym, ◌∙◌, ap, arith}
 use Rattle.std.proofs.Common.{length-take-le, length-drop}
 use Rattle.v_frame_ops.specs.Change.{combined}

@@ -1,4 +1,4 @@
--- The rows so far are those of the two by turns, and all else is as it was.
+-- The rows so far are those of the two sources, interleaved, and all other entries are unchanged.
 use Rattle.v_frame_ops.specs.Change.{combined}
 use Rattle.v_frame_raster.proofs.tables.StridedWrites.{WrittenBelow}
 use Rattle.v_frame_semi_planar.specs.Interleaved.{interleaved}

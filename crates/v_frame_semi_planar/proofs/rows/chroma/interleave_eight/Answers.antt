@@ -1,4 +1,4 @@
--- The row is what was put together.
+-- The row is the interleaved array.
 use Rattle.std.proofs.Common.{◌∙◌, sym, arith}
 use Rattle.std.proofs.lemmas.List.{take_all}
 use Rattle.v_frame_semi_planar.proofs.rows.chroma.interleave_eight.Goals as goal

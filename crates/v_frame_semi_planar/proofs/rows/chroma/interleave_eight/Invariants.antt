@@ -1,4 +1,4 @@
--- The pixels so far are those that were put together.
+-- The pixels so far are those of the interleaved array.
 use Rattle.std.proofs.Common.{◌≡◌, take}
 use Rattle.v_frame_semi_planar.proofs.rows.chroma.interleave_eight.Given as goal
 

@@ -1,4 +1,4 @@
--- Two more pixels are by turns in the row.
+-- Two more pixels are interleaved.
 use Rattle.std.proofs.Common.{◌∙◌, arith}
 use Rattle.v_frame_semi_planar.proofs.Interleaving.{by_turns}
 use Rattle.v_frame_semi_planar.proofs.rows.chroma.interleave_pixels.Goals as goal

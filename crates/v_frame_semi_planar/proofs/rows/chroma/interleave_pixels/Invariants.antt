@@ -1,4 +1,4 @@
--- The pixels so far are by turns in the row.
+-- The pixels so far are interleaved.
 use Rattle.v_frame_semi_planar.proofs.Interleaving.{ByTurnsBelow}
 use Rattle.v_frame_semi_planar.proofs.rows.chroma.interleave_pixels.Given as goal
 

@@ -1,4 +1,4 @@
--- What is shown can be written as planned.
+-- The edited frame can be written as planned.
 use Rattle.std.proofs.Common.{subst, sym}
 use Rattle.v_frame_streams.specs.Plans.{CanLayOut, Plan}
 use Rattle.v_frame_streams.proofs.maker.Maker.write_frame.Goals as goal

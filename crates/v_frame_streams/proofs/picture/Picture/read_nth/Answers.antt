@@ -1,4 +1,4 @@
--- The frames that were passed over, and the one behind them.
+-- The skipped frames, and the frame after them.
 use Rattle.std.proofs.Common.{ℕ, ◌≡◌, ◌+◌, ◌<◌, ◌∙◌, Bool, true, false, List, Option, Result, Ok, Err, length, arith, refl, subst}
 use Rattle.std.specs.Prelude.{min, IfErr, IfOk}
 use Rattle.v_frame.specs.Prelude.{tables_of, PixelForm, Tables}
@@ -12,7 +12,7 @@ use Rattle.v_frame_streams.specs.declared.error.StreamError.{StreamError}
 use Rattle.v_frame_streams.proofs.Reading.{no_more_read, one_more_read}
 use Rattle.v_frame_streams.proofs.picture.Picture.read_nth.Goals as goal
 
--- one frame more was read behind so many, or none
+-- After the skipped frames, one more frame was read, or none.
 nth_of_next : {T : Type 0} (form : PixelForm T) (stream : Stream) (left mid left' : Option (List ℕ)) (n begun now after : ℕ)
     → CountsFrames left mid stream.container stream.frame_len n n → now ≡ min (begun + n) most_frames → (bytes : List ℕ)
     (tables : Tables T) (more : Bool)

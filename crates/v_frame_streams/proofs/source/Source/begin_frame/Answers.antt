@@ -1,4 +1,4 @@
--- A frame breaks off behind its line, or in its first bytes.
+-- Reading a frame fails after its line, or in its first bytes.
 use Rattle.std.proofs.Common.{◌≡◌, ◌<◌, ◌∙◌, Bool, [], ap, arith, length-take-le, refl, rules, subst, sym, take, ℕ}
 use Rattle.std.proofs.lemmas.Result.{err_from_is_err_and}
 use Rattle.v_frame_planar.specs.declared.error.PlanarError.TheVariants.{Truncated}

@@ -1,4 +1,4 @@
--- The line in front of a frame was not read, and why.
+-- The reason why the line in front of a frame was not read.
 use Rattle.std.proofs.Common.{subst, sym}
 use Rattle.std.specs.Io.Buffered.{reader_remaining}
 use Rattle.v_frame_streams.specs.Errors.{StopsFrame}

@@ -1,4 +1,4 @@
--- The color that the table has for the three has them.
+-- The color in the table for the three properties has them.
 use Rattle.std.proofs.Common.{arith}
 use Rattle.std.proofs.lemmas.Grind.{common_steps}
 use Rattle.v_frame_y4m.proofs.ColorsFound.{found_if}

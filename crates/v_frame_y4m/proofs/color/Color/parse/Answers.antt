@@ -1,4 +1,4 @@
--- A color that is spelled otherwise is passed over.
+-- A color with another spelling is skipped.
 use Rattle.std.proofs.Common.{rules}
 use Rattle.v_frame_y4m.proofs.ColorTexts.{further, stated_at}
 use Rattle.v_frame_y4m.proofs.color.Color.parse.Goals as goal

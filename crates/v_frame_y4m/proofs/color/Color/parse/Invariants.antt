@@ -1,4 +1,4 @@
--- A color that is spelled so stands further on.
+-- A color with this spelling comes later in the list.
 use Rattle.std.proofs.Common.{◌≡◌, ◌≤◌}
 use Rattle.std.specs.Prelude.{Some}
 use Rattle.v_frame_y4m.specs.Color.{color_text, stated}

@@ -1,4 +1,4 @@
--- What `video_frame` gives at the format and the depth of the color.
+-- The result of `video_frame` for the format and the depth of the color.
 use Rattle.std.proofs.Common.{sym}
 use Rattle.v_frame_y4m.proofs.header.StreamHeader.frame.Goals as goal
 
