@@ -12,7 +12,7 @@ use v_frame::plane::{Plane, PlaneRef, VisibleMut};
 /// unchanged.
 ///
 /// The mean is computed exactly, then rounded once to the nearest integer, halves upwards. The sizes must pass the test of
-/// [`can_resize`](crate::can_resize).
+/// [`can_resize`](crate::rows::can_resize).
 pub fn resize_area<T: Pixel>(source: &PlaneRef<'_, T>, target: &mut Plane<T>)
     requires { CanResize source.now.geometry.width source.now.geometry.height
         target.old.geometry.width target.old.geometry.height }
