@@ -28,7 +28,7 @@ module _ {Y : Type 0} (made : ℕ → Y → Type 0) where
         (q, becomes, set_is_read now i q within);
   }
 
--- The results of a function for the item of a list at the same index.
+-- `gives p q` holds for the item `p` of `source` at index `k`.
 abbrev pub GivenAt : {X Y : Type 0} → (X → Y → Type 0) → List X → ℕ → Y → Type 0
 GivenAt {X} gives source k q = (p : X) → slice_get source k ≡ Some p → gives p q
 

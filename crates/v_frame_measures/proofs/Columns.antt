@@ -93,7 +93,7 @@ module _ {T : Type 0} (value : T → ℕ) where
   sums_of_four u0 u1 u2 u3 w0 w1 w2 w3 =
       alike _ _ _ _ _ _ _ _ (omega arith) (omega arith) (omega arith) (omega arith)
 
-  -- The eight pixels of a column of two pictures, and their contribution to the sums.
+  -- The pixels `u0` to `u3` of column `x` in four rows.
   pub record ColumnPixels (p0 p1 p2 p3 : List T) (x : ℕ) (u0 u1 u2 u3 : T) : Type 0 where
     pub long0 : x < length p0
     pub long1 : x < length p1

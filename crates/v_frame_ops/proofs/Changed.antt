@@ -14,7 +14,7 @@ pub record ChangedBelow {X : Type 0} (made : ℕ → X → X → Type 0) (old no
   pub changed : (k : ℕ) → k < i → (p : X) → slice_get old k ≡ Some p → (q : X) × made k p q × (slice_get now k ≡ Some q)
   pub others : (k : ℕ) → i ≤ k → slice_get now k ≡ slice_get old k
 
--- The results of a function for an item and the item of another list at the same index.
+-- `gives p q r` holds for the item `q` of another list at index `k`.
 abbrev pub GivenWith : {X : Type 0} → (X → X → X → Type 0) → List X → ℕ → X → X → Type 0
 GivenWith {X} gives other k p r = (q : X) → slice_get other k ≡ Some q → gives p q r
 

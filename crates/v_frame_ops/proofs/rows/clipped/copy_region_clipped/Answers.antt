@@ -9,7 +9,7 @@ use Rattle.v_frame_ops.proofs.Tables.{rectangle_holds}
 use Rattle.v_frame_ops.proofs.rows.clipped.copy_region_clipped.Goals as goal
 use Rattle.v_frame_ops.proofs.rows.clipped.copy_region_clipped.Goals.{then-across-eq0-via-then-across-eq0, then-across-eq0-via-else-across-eq0+then-down-eq0}
 
--- If a column of the source lies on a column of the target, then `n` columns further the two also lie on each other.
+-- The target column `k` under source column `i`, counted from the first columns that overlap.
 lies_after : (offset : ℤ) (start skipped i k : ℕ) → pos k ≡ offset +ℤ pos i → pos start ≡ offset +ℤ pos skipped
     → skipped ≤ i → k ≡ start + (i - skipped)
 lies_after offset start skipped i k on place from = omega (arith, ints)
