@@ -64,6 +64,8 @@ pub fn frame_mean_squared_error<T: Pixel>(a: &Frame<T>, b: &Frame<T>) -> FrameMe
 /// Returns the structural similarity (SSIM) of each plane of two frames, and their mean weighted by pixels. It uses the bit
 /// depth of `a`. Each plane has the same size in both frames, as [`frames_have_one_size`] tests.
 ///
+/// The weights of the mean are rounded to `f64`, so the mean of two equal frames may differ from 1 in the last digit.
+///
 /// Returns `None` if and only if a plane of `a` is narrower or lower than 8 pixels, the size of a window.
 pub fn frame_ssim<T: Pixel>(a: &Frame<T>, b: &Frame<T>) -> Option<FrameMeasure>
     requires { HaveOneSize (tables_of a.now) (tables_of b.now) }
