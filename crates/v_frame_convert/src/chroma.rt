@@ -46,9 +46,9 @@ pub fn upscale<T: Copy>(
 /// by 2 source pixels, rounded to the nearest integer, halves upwards. If the width is odd, the last column counts twice, and
 /// if the height is odd, the last row counts twice. The padding of `target` stays unchanged.
 ///
-/// [`subsampled_size`](crate::subsampled_size) with a ratio of 2 computes the size of `target`. The result equals that of
-/// [`resample`](crate::resample) with [`Half`](crate::Scale::Half) in both directions and equal depths, and this function is
-/// faster.
+/// [`subsampled_size`](crate::subsampled_size) with a ratio of 2 computes the size of `target`. If all samples fit the bit
+/// depth, [`resample`](crate::resample) with [`Half`](crate::Scale::Half) in both directions and no change of depth writes the
+/// same pixels, but is slower.
 pub fn downscale_to_edge<T: Pixel>(source: &PlaneRef<'_, T>, target: &mut Plane<T>)
     requires wide { target.old.geometry.width ≡ (source.now.geometry.width + 1) / 2 }
     requires high { target.old.geometry.height ≡ (source.now.geometry.height + 1) / 2 }
@@ -70,8 +70,8 @@ pub fn downscale_to_edge<T: Pixel>(source: &PlaneRef<'_, T>, target: &mut Plane<
 /// pixels, rounded to the nearest integer, halves upwards. If the width is odd, the last column is copied. The height stays the
 /// same. The padding of `target` stays unchanged.
 ///
-/// The result equals that of [`resample`](crate::resample) with [`Half`](crate::Scale::Half) across,
-/// [`Same`](crate::Scale::Same) down and equal depths, and this function is faster.
+/// If all samples fit the bit depth, [`resample`](crate::resample) with [`Half`](crate::Scale::Half) across and
+/// [`Same`](crate::Scale::Same) down and no change of depth writes the same pixels, but is slower.
 pub fn halve_columns<T: Pixel>(source: &PlaneRef<'_, T>, target: &mut Plane<T>)
     requires wide { target.old.geometry.width ≡ (source.now.geometry.width + 1) / 2 }
     requires high { target.old.geometry.height ≡ source.now.geometry.height }

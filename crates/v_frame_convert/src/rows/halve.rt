@@ -13,8 +13,8 @@ use v_frame::plane::RowsRef;
 /// a block of 2 by 2 source pixels, rounded to the nearest integer, halves upwards. If the width is odd, the last column counts
 /// twice, and if the height is odd, the last row counts twice.
 ///
-/// The result equals that of [`resample`](super::resample) with `Half` in both directions and equal depths, and this function
-/// is faster.
+/// If all samples fit the bit depth, [`resample`](super::resample) with `Half` in both directions and no change of depth writes
+/// the same pixels, but is slower.
 #[tactic(auto, using(v_frame_raster::proofs::tables::StridedWrites::row_ends))]
 pub fn downscale_to_edge<T: Pixel>(
     source: &RowsRef<'_, T>,
@@ -43,8 +43,8 @@ pub fn downscale_to_edge<T: Pixel>(
 /// source pixels, rounded to the nearest integer, halves upwards. If the width is odd, the last column is copied. The height
 /// stays the same.
 ///
-/// The result equals that of [`resample`](super::resample) with `Half` across, `Same` down and equal depths, and this function
-/// is faster.
+/// If all samples fit the bit depth, [`resample`](super::resample) with `Half` across and `Same` down and no change of depth
+/// writes the same pixels, but is slower.
 #[tactic(auto, using(v_frame_raster::proofs::tables::StridedWrites::row_ends))]
 pub fn halve_columns<T: Pixel>(
     source: &RowsRef<'_, T>,
