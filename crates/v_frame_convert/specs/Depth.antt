@@ -15,7 +15,7 @@ largest_value depth = 2 ^ depth - 1
 abbrev pub at_greater_depth : ℕ → ℕ → ℕ → ℕ
 at_greater_depth from to value = min value (largest_value from) * 2 ^ (to - from)
 
--- A value rounded to the nearest integer of the smaller depth, halves upwards, and clipped.
+-- A value rounded to the nearest integer of the smaller depth, halves up, and clipped.
 abbrev pub at_smaller_depth : ℕ → ℕ → ℕ → ℕ
 at_smaller_depth from to value =
     min ((value + 2 ^ (from - to - 1)) / 2 ^ (from - to)) (largest_value to)

@@ -9,7 +9,7 @@ use Rattle.v_frame_convert.specs.Depth.{largest_value}
 use Rattle.v_frame_convert.specs.declared.range.Component.{Component}
 use Rattle.v_frame_convert.specs.declared.range.Component.TheVariants.{Luma, Chroma}
 
--- A quotient, rounded to the nearest integer, halves upwards.
+-- A quotient, rounded to the nearest integer, halves up.
 abbrev pub rounded_quotient : ℕ → ℕ → ℕ
 rounded_quotient a b = (a + b / 2) / b
 

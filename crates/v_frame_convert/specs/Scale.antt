@@ -27,7 +27,7 @@ SizesFit Same source target = target ≡ source
 SizesFit Double source target = source ≡ (target + 1) / 2
 SizesFit Quadruple source target = source ≡ (target + 3) / 4
 
--- The mean of values, rounded to the nearest integer, halves upwards.
+-- The mean of values, rounded to the nearest integer, halves up.
 abbrev pub mean_of : List ℕ → ℕ
 mean_of values = rounded_quotient (sum values) (length values)
 

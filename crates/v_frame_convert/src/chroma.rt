@@ -43,8 +43,8 @@ pub fn upscale<T: Copy>(
 }
 
 /// Halves the width and the height of `source` into `target`, with odd sizes rounded up. Each pixel is the mean of a block of 2
-/// by 2 source pixels, rounded to the nearest integer, halves upwards. If the width is odd, the last column counts twice, and
-/// if the height is odd, the last row counts twice. The padding of `target` stays unchanged.
+/// by 2 source pixels, rounded to the nearest integer, halves up. If the width is odd, the last column counts twice, and if the
+/// height is odd, the last row counts twice. The padding of `target` stays unchanged.
 ///
 /// [`subsampled_size`](crate::subsampled_size) with a ratio of 2 computes the size of `target`. If all samples fit the bit
 /// depth, [`resample`](crate::resample) with [`Half`](crate::Scale::Half) in both directions and no change of depth writes the
@@ -67,7 +67,7 @@ pub fn downscale_to_edge<T: Pixel>(source: &PlaneRef<'_, T>, target: &mut Plane<
 }
 
 /// Halves the width of `source` into `target`, with an odd width rounded up. Each pixel is the mean of two adjacent source
-/// pixels, rounded to the nearest integer, halves upwards. If the width is odd, the last column is copied. The height stays the
+/// pixels, rounded to the nearest integer, halves up. If the width is odd, the last column is copied. The height stays the
 /// same. The padding of `target` stays unchanged.
 ///
 /// If all samples fit the bit depth, [`resample`](crate::resample) with [`Half`](crate::Scale::Half) across and

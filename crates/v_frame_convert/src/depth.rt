@@ -12,8 +12,8 @@ use v_frame::plane::{Plane, PlaneRef, VisibleMut};
 /// size. The padding of `target` stays unchanged.
 ///
 /// To a greater depth a value is shifted left, `value << (to - from)`, as the limited range requires: for example, 235 of 8
-/// bits becomes 940 of 10 bits, and 255 becomes 1020. To a smaller depth it is rounded to the nearest integer, halves upwards,
-/// and clipped to `2^to - 1`. A value above `2^from - 1` is first replaced by `2^from - 1`.
+/// bits becomes 940 of 10 bits, and 255 becomes 1020. To a smaller depth it is rounded to the nearest integer, halves up, and
+/// clipped to `2^to - 1`. A value above `2^from - 1` is first replaced by `2^from - 1`.
 ///
 /// Each depth must fit its type of pixels, as [`depth_fits`](crate::depth_fits) tests.
 pub fn convert_depth<S: Pixel, T: Pixel>(

@@ -44,9 +44,9 @@ pub fn sizes_fit(scale: Scale, source: usize, target: usize) -> bool
 ///
 /// `across` relates the width of `target` to the width of `source`, and `down` relates the heights. `down` must not be
 /// [`Quarter`](Scale::Quarter). If the target is smaller, each pixel is the mean of the block that it covers (box filter),
-/// rounded to the nearest integer, halves upwards. At the right and lower edge the last column or row is repeated to fill a
-/// block. If the target is larger, pixels are repeated (nearest neighbor). Chroma samples are therefore sited at the center of
-/// the luma samples that they cover, as in JPEG and MPEG-1. The value is then converted from depth `from` to depth `to`, as in
+/// rounded to the nearest integer, halves up. At the right and lower edge the last column or row is repeated to fill a block.
+/// If the target is larger, pixels are repeated (nearest neighbor). Chroma samples are therefore sited at the center of the
+/// luma samples that they cover, as in JPEG and MPEG-1. The value is then converted from depth `from` to depth `to`, as in
 /// [`convert_depth`](crate::convert_depth).
 ///
 /// The sizes must correspond, as [`sizes_fit`](sizes_fit) tests, and each depth must fit its type of pixels, as

@@ -6,7 +6,7 @@ use Rattle.std.specs.Int.{abs_diff}
 use Rattle.v_frame.specs.Prelude.{PixelForm}
 
 -- The mean of `p` and `q`, in which `q` has the weight `weight / parts` and `p` the rest, rounded
--- to the nearest integer, halves upwards.
+-- to the nearest integer, halves up.
 abbrev pub weighted_mean : ℕ → ℕ → ℕ → ℕ → ℕ
 weighted_mean parts weight p q = (p * (parts - weight) + q * weight + parts / 2) / parts
 

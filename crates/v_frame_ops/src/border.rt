@@ -1,4 +1,5 @@
-//! Padding filled with the edge pixels of the picture, as motion search and filters need that read past the edge of a plane.
+//! Padding filled with the edge pixels of the picture. Motion search and filters need it when they read past the edge of a
+//! plane.
 ghost use Rattle.std.specs.Prelude.{◌≡◌, ◌≢◌, ◌+◌, ◌-◌, ◌<◌, ◌≤◌, ◌⊎◌, ℕ, length, replicate, slice_get, Some};
 ghost use Rattle.v_frame.specs.Prelude.{IsWhole, pixel_at, raster, stride_of, alloc_height_of, table_of, whole_rows};
 ghost use Rattle.v_frame_ops.specs.Border.{nearest, IsPadded};

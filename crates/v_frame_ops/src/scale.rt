@@ -7,7 +7,7 @@ use v_frame::pixel::Pixel;
 use v_frame::plane::{Plane, PlaneRef, VisibleMut};
 
 /// Writes `source` in half its width and half its height into `target`. Each pixel is the mean of a block of 2 by 2 source
-/// pixels, rounded to the nearest integer, halves upwards.
+/// pixels, rounded to the nearest integer, halves up.
 ///
 /// The width and the height of `source` are exactly twice those of `target`. The padding of `target` stays unchanged.
 pub fn downscale<T: Pixel>(source: &PlaneRef<'_, T>, target: &mut Plane<T>)

@@ -31,7 +31,7 @@ module _ {T : Type 0} (form : PixelForm T) (rows : Table T) (width height : ℕ)
   area_sum x y = weighted (λ j. overlap (height_of rows) height j y) (row_sum form width x) rows
 
   -- The mean of the area that the target pixel at column `x` of row `y` covers, rounded to the
-  -- nearest integer, halves upwards. The area has as many units as the source has pixels.
+  -- nearest integer, halves up. The area has as many units as the source has pixels.
   abbrev pub area_mean : ℕ → ℕ → ℕ
   area_mean x y =
       let area = width_of rows * height_of rows in

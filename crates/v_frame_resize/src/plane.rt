@@ -11,7 +11,7 @@ use v_frame::plane::{Plane, PlaneRef, VisibleMut};
 /// covers. Source pixels that are covered only in part are weighted by the covered area. The padding of `target` stays
 /// unchanged.
 ///
-/// The mean is computed exactly, then rounded once to the nearest integer, halves upwards. The sizes must pass the test of
+/// The mean is computed exactly, then rounded once to the nearest integer, halves up. The sizes must pass the test of
 /// [`can_resize`](crate::rows::can_resize).
 pub fn resize_area<T: Pixel>(source: &PlaneRef<'_, T>, target: &mut Plane<T>)
     requires { CanResize source.now.geometry.width source.now.geometry.height

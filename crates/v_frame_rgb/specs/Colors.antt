@@ -11,7 +11,7 @@ use Rattle.v_frame_rgb.specs.declared.color.Color.{Color}
 use Rattle.v_frame_rgb.specs.declared.matrix.RgbMatrix.{RgbMatrix}
 use Rattle.v_frame_rgb.specs.declared.matrix.YuvMatrix.{YuvMatrix}
 
--- (bright - dark) / scale, rounded to the nearest integer, halves upwards, and clipped to 0..255.
+-- (bright - dark) / scale, rounded to the nearest integer, halves up, and clipped to 0..255.
 abbrev pub sample_of : ℕ → ℕ → ℕ → ℕ
 sample_of scale bright dark = min ((bright + scale / 2 - dark) / scale) 255
 

@@ -31,7 +31,7 @@ times f count = fraction (f.over * count) f.under
 abbrev pub plus : Fraction → Fraction → Fraction
 plus f g = fraction (f.over * g.under + g.over * f.under) (f.under * g.under)
 
--- The difference of two fractions, rounded to the nearest integer, halves upwards, and clipped to
+-- The difference of two fractions, rounded to the nearest integer, halves up, and clipped to
 -- 0..255.
 abbrev pub sample_nearest : Fraction → Fraction → ℕ
 sample_nearest f g = sample_of (f.under * g.under) (f.over * g.under) (g.over * f.under)

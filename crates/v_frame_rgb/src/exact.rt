@@ -49,7 +49,7 @@ impl ExactMatrix {
     }
 
     /// Returns the 8-bit color of a luma sample `y`, a Cb sample `u` and a Cr sample `v`. Each channel is computed exactly from
-    /// the fractions of the standard, rounded once to the nearest integer, halves upwards, and clipped to `0..=255`.
+    /// the fractions of the standard, rounded once to the nearest integer, halves up, and clipped to `0..=255`.
     #[inline(always)]
     pub fn color(&self, y: u16, u: u16, v: u16) -> Color
         ensures { result ≡ exact_color self.now.standard self.now.range self.now.depth y u v }
@@ -93,7 +93,7 @@ fn weighed(coefficient: u64, sample: u16) -> u64
     coefficient * u64::from(sample)
 }
 
-/// Returns `(bright - dark) / scale`, rounded to the nearest integer, halves upwards, and clipped to `0..=255`.
+/// Returns `(bright - dark) / scale`, rounded to the nearest integer, halves up, and clipped to `0..=255`.
 #[inline(always)]
 fn nearest_sample(scale: u64, bright: u64, dark: u64) -> u8
     requires some { 0 < scale }

@@ -9,7 +9,7 @@ ghost use Rattle.v_frame_rgb.specs.declared.color.Color.{Color};
 ghost use Rattle.v_frame_rgb.specs.declared.standard.Standard.{Standard};
 ghost use Rattle.v_frame_rgb.specs.declared.standard.ColorRange.{ColorRange};
 
-/// A sample is the difference divided by the scale, rounded to the nearest integer, halves upwards, and clipped to a byte.
+/// A sample is the difference divided by the scale, rounded to the nearest integer, halves up, and clipped to a byte.
 pub fn samples_are_clamped_quotients()
     ensures { (scale bright dark : ℕ) → 0 < scale → pos (sample_of scale bright dark)
         ≡ int_max (pos 0) (int_min (int_div_euclid (pos (bright + scale / 2) -ℤ pos dark) (pos scale)) (pos 255)) }

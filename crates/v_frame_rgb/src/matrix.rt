@@ -68,7 +68,7 @@ impl RgbMatrix {
     }
 
     /// Returns the color of a luma sample `y`, a Cb sample `u` and a Cr sample `v`. Each channel is rounded to the nearest
-    /// integer, halves upwards, and clipped to `0..=255`.
+    /// integer, halves up, and clipped to `0..=255`.
     #[inline(always)]
     pub fn color(self, y: u8, u: u8, v: u8) -> Color
         ensures { result ≡ color_of self y u v }
@@ -158,7 +158,7 @@ impl YuvMatrix {
     }
 }
 
-/// Returns `(bright - dark) / 16384`, rounded to the nearest integer, halves upwards, and clipped to `0..=255`.
+/// Returns `(bright - dark) / 16384`, rounded to the nearest integer, halves up, and clipped to `0..=255`.
 #[inline(always)]
 fn color_sample(bright: u32, dark: u32) -> u8
     requires { bright < 2 ^ 31 }

@@ -24,7 +24,7 @@ pub trait Channel: sealed::Sealed {
     // The sample of a color in this channel.
     ghost sample: { YuvMatrix → Color → ℕ };
 
-    /// Returns the sample of `color` in this channel, rounded to the nearest integer, halves upwards, and clipped to `0..=255`.
+    /// Returns the sample of `color` in this channel, rounded to the nearest integer, halves up, and clipped to `0..=255`.
     fn sample(matrix: YuvMatrix, color: Color) -> u8
         ensures { result ≡ sample matrix color };
 }
@@ -83,7 +83,7 @@ fn weighed(coefficient: u16, channel: u8) -> u32
     u32::from(coefficient) * u32::from(channel)
 }
 
-/// Returns `(bright - dark) / 65536`, rounded to the nearest integer, halves upwards, and clipped to `0..=255`.
+/// Returns `(bright - dark) / 65536`, rounded to the nearest integer, halves up, and clipped to `0..=255`.
 #[inline(always)]
 fn nearest_sample(bright: u32, dark: u32) -> u8
     requires { bright < 2 ^ 31 }

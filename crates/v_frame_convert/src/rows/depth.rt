@@ -13,7 +13,7 @@ use v_frame::plane::RowsRef;
 /// has the same size as the rows.
 ///
 /// To a greater depth a value is shifted left, `value << (to - from)`: for example, 255 of 8 bits becomes 1020 of 10 bits. To a
-/// smaller depth it is rounded to the nearest integer, halves upwards, and clipped to `2^to - 1`. A value above `2^from - 1` is
+/// smaller depth it is rounded to the nearest integer, halves up, and clipped to `2^to - 1`. A value above `2^from - 1` is
 /// first replaced by `2^from - 1`.
 ///
 /// Each depth must fit its type of pixels, as [`depth_fits`](crate::depth_fits) tests.

@@ -10,7 +10,7 @@ use v_frame::pixel::Pixel;
 use v_frame::plane::RowsRef;
 
 /// Halves the width and the height of `source` into the rows in `buffer`, with odd sizes rounded up. Each pixel is the mean of
-/// a block of 2 by 2 source pixels, rounded to the nearest integer, halves upwards. If the width is odd, the last column counts
+/// a block of 2 by 2 source pixels, rounded to the nearest integer, halves up. If the width is odd, the last column counts
 /// twice, and if the height is odd, the last row counts twice.
 ///
 /// If all samples fit the bit depth, [`resample`](super::resample) with `Half` in both directions and no change of depth writes
@@ -40,8 +40,8 @@ pub fn downscale_to_edge<T: Pixel>(
 }
 
 /// Halves the width of `source` into the rows in `buffer`, with an odd width rounded up. Each pixel is the mean of two adjacent
-/// source pixels, rounded to the nearest integer, halves upwards. If the width is odd, the last column is copied. The height
-/// stays the same.
+/// source pixels, rounded to the nearest integer, halves up. If the width is odd, the last column is copied. The height stays
+/// the same.
 ///
 /// If all samples fit the bit depth, [`resample`](super::resample) with `Half` across and `Same` down and no change of depth
 /// writes the same pixels, but is slower.
@@ -112,7 +112,7 @@ fn halve_pairs<T: Pixel>(source: &[T], row: &mut [T])
     }
 }
 
-/// Returns the mean of two pixels, rounded to the nearest integer, halves upwards.
+/// Returns the mean of two pixels, rounded to the nearest integer, halves up.
 fn mean_of_two<T: Pixel>(a: T, b: T) -> T
     ensures { result ≡ T.form.pixel_of ((T.form.value a + T.form.value b + 1) / 2) }
 {

@@ -19,8 +19,8 @@ use v_frame::plane::RowsRef;
 ///
 /// Let `k` be `2^(depth - 8)` and `peak` be `2^depth - 1`. A luma value `v` becomes `(v - 16 * k) * peak / (219 * k)`, and a
 /// chroma value `v` becomes `(v - 128 * k) * peak / (224 * k) + 128 * k`. The result is rounded to the nearest integer, halves
-/// upwards, and clipped to `0..=peak`. At 8 bits, luma 16 becomes 0 and 235 becomes 255; chroma 16 becomes 1, 128 stays 128,
-/// and 240 becomes 255. These are the ranges of ITU-R BT.601, BT.709 and BT.2100.
+/// up, and clipped to `0..=peak`. At 8 bits, luma 16 becomes 0 and 235 becomes 255; chroma 16 becomes 1, 128 stays 128, and 240
+/// becomes 255. These are the ranges of ITU-R BT.601, BT.709 and BT.2100.
 ///
 /// The depth must fit the type of the pixels, as [`depth_fits`](crate::depth_fits) tests.
 pub fn to_full_range<T: Pixel>(
@@ -71,8 +71,8 @@ pub fn to_full_range<T: Pixel>(
 ///
 /// This is the inverse of [`to_full_range`] up to rounding. Let `k` be `2^(depth - 8)` and `peak` be `2^depth - 1`. A luma
 /// value `v` becomes `16 * k + v * 219 * k / peak`, and a chroma value `v` becomes `128 * k + (v - 128 * k) * 224 * k / peak`.
-/// The result is rounded to the nearest integer, halves upwards. At 8 bits, luma 0 becomes 16 and 255 becomes 235. A value
-/// above `peak` is first replaced by `peak`.
+/// The result is rounded to the nearest integer, halves up. At 8 bits, luma 0 becomes 16 and 255 becomes 235. A value above
+/// `peak` is first replaced by `peak`.
 ///
 /// The depth must fit the type of the pixels, as [`depth_fits`](crate::depth_fits) tests.
 pub fn to_limited_range<T: Pixel>(

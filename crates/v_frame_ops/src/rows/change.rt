@@ -67,7 +67,7 @@ pub fn combine_pixels<T: Pixel, F: Fn(T, T) -> T>(
 }
 
 /// Writes `source` in half its width and half its height into the rows in `buffer`. Each pixel is the mean of a block of 2 by 2
-/// source pixels, rounded to the nearest integer, halves upwards. The size of `source` is exactly twice the size of the rows.
+/// source pixels, rounded to the nearest integer, halves up. The size of `source` is exactly twice the size of the rows.
 #[tactic(auto, using(v_frame_raster::proofs::tables::StridedWrites::row_ends))]
 pub fn downscale<T: Pixel>(
     source: &RowsRef<'_, T>,

@@ -27,7 +27,7 @@ pub fn can_resize(source_width: usize, source_height: usize, width: usize, heigh
 /// Resizes `source` to the size of the rows in `buffer` with a box filter: each pixel is the mean of the area of `source` that
 /// it covers. Source pixels that are covered only in part are weighted by the covered area.
 ///
-/// The mean is computed exactly, then rounded once to the nearest integer, halves upwards. The sizes must pass the test of
+/// The mean is computed exactly, then rounded once to the nearest integer, halves up. The sizes must pass the test of
 /// [`can_resize`].
 #[tactic(auto, using(v_frame_raster::proofs::tables::StridedWrites::row_ends))]
 pub fn resize_area<T: Pixel>(
