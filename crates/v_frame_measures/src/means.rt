@@ -48,7 +48,7 @@ impl Mean {
 }
 
 /// The quality of a stream as two means over its frames: the mean of the mean squared errors, and the mean of the PSNR values.
-/// The PSNR of the first mean differs from the second mean.
+/// In general, the PSNR of the mean error is not the mean of the PSNR values.
 ///
 /// The mean of the PSNR values is infinite as soon as one frame has no error. The summary of FFmpeg's filter `psnr` prints the
 /// PSNR of the mean error.

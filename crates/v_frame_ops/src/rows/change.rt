@@ -149,7 +149,7 @@ fn combine_rows<T: Copy, F: Fn(T, T) -> T>(
     for y in 0..height {
         let start = stride * y;
         let row = &mut buffer[start..start + width];
-        // The slice has the constant length `width`, so the compiler drops the length checks of the row loop.
+        // The slice is as long as `row`, so the compiler drops the length checks of the loop over the row.
         combine_row(row, &other.visible_row(y)[..width], combine);
     }
 }
