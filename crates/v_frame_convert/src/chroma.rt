@@ -70,7 +70,7 @@ pub fn downscale_to_edge<T: Pixel>(source: &PlaneRef<'_, T>, target: &mut Plane<
 /// pixels, rounded to the nearest integer, halves up. If the width is odd, the last column is copied. The height stays the
 /// same. The padding of `target` stays unchanged.
 ///
-/// If all samples fit the bit depth, [`resample`](crate::resample) with [`Half`](crate::Scale::Half) across and
+/// If all samples fit the bit depth, [`resample`](crate::resample) with [`Half`](crate::Scale::Half) across,
 /// [`Same`](crate::Scale::Same) down and no change of depth writes the same pixels, but is slower.
 pub fn halve_columns<T: Pixel>(source: &PlaneRef<'_, T>, target: &mut Plane<T>)
     requires wide { target.old.geometry.width ≡ (source.now.geometry.width + 1) / 2 }

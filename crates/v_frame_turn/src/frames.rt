@@ -1,7 +1,7 @@
 //! Frames rotated, mirrored or transposed, plane by plane. The padding stays unchanged.
 //!
-//! A rotation by 90 or 270 degrees and a transposition exchange the two subsampling ratios of chroma. They work for 4:2:0,
-//! 4:4:4 and monochrome frames. For 4:2:2 and 4:1:1 frames they return [`TurnError::UnevenSubsampling`].
+//! A rotation by 90 or 270 degrees and a transposition exchange the two subsampling ratios of chroma. They are possible for
+//! 4:2:0, 4:4:4 and monochrome frames. For 4:2:2 and 4:1:1 frames, [`turn_frame`] returns [`TurnError::UnevenSubsampling`].
 ghost use Rattle.std.specs.Prelude.{◌≡◌, ◌↔◌, false, option_map, true, Err, IfErr, IsTrue, OnOk};
 ghost use Rattle.v_frame.specs.Prelude.{border_and_geometry, table_of, tables_of, KeepsBorders};
 ghost use Rattle.v_frame_turn.specs.Frames.{exchanges, is_turnable, turned, turned_tables};

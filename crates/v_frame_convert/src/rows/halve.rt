@@ -43,7 +43,7 @@ pub fn downscale_to_edge<T: Pixel>(
 /// source pixels, rounded to the nearest integer, halves up. If the width is odd, the last column is copied. The height stays
 /// the same.
 ///
-/// If all samples fit the bit depth, [`resample`](super::resample) with `Half` across and `Same` down and no change of depth
+/// If all samples fit the bit depth, [`resample`](super::resample) with `Half` across, `Same` down and no change of depth
 /// writes the same pixels, but is slower.
 #[tactic(auto, using(v_frame_raster::proofs::tables::StridedWrites::row_ends))]
 pub fn halve_columns<T: Pixel>(
