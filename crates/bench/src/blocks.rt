@@ -1,18 +1,18 @@
-//! Cases that compare two planes block by block, as a search for motion does.
+//! Cases that compare two planes block by block, as motion search does.
 
 use v_frame::pixel::Pixel;
 use v_frame::plane::{Plane, RowsRef};
 use v_frame_ops::rows::{sum_of_absolute_differences, sum_of_squared_errors};
 
-/// How two blocks are compared.
+/// The measure by which two blocks are compared.
 #[derive(Clone, Copy)]
 pub enum Measure {
     Absolute,
     Squared,
 }
 
-/// Sums how far the blocks of `size` columns and rows of one plane lie from the first block of the same rows of another, as a
-/// search for motion compares one block with many.
+/// Compares blocks of `size` by `size` pixels of one plane with the first block of the same rows of another plane, as motion
+/// search compares one block with many. Returns the sum of the results.
 #[inline(never)]
 pub fn compare_blocks<T: Pixel>(a: &Plane<T>, b: &Plane<T>, size: usize, measure: Measure) -> u64 {
     if size == 0 {
@@ -37,7 +37,7 @@ pub fn compare_blocks<T: Pixel>(a: &Plane<T>, b: &Plane<T>, size: usize, measure
     sum
 }
 
-/// Returns how far two blocks lie apart. It is inline, as a block of 8 by 8 takes less time than to pass it.
+/// Returns the difference of two blocks. The function is inlined, because a call takes longer than the work on an 8 by 8 block.
 #[inline(always)]
 fn compared<T: Pixel>(block: &RowsRef<'_, T>, other: &RowsRef<'_, T>, measure: Measure) -> u64 {
     if block.width() != other.width() || block.height() != other.height() {

@@ -1,4 +1,4 @@
-//! The cases, and what each does.
+//! The benchmark cases, and the work of each one.
 
 use crate::blocks::{Measure, compare_blocks};
 use crate::desk::Desk;
@@ -7,7 +7,7 @@ use crate::{reads, whole, writes};
 use v_frame::chroma::ChromaSubsampling;
 use v_frame::pixel::Pixel;
 
-/// What is measured.
+/// A benchmark case.
 #[derive(Clone, Copy)]
 pub enum Case {
     BuildMono,
@@ -80,7 +80,7 @@ pub const CASES: [(&str, Case); 35] = [
     ("copy_byte_data", Case::CopyToBytes),
 ];
 
-/// Does the work of a case once, and gives a number that depends on it.
+/// Does the work of a case once, and returns a number that depends on it.
 pub fn work<T: Pixel>(case: Case, desk: &mut Desk<T>) -> Result<u64, BenchError> {
     match case {
         Case::BuildMono => whole::build_one(desk, ChromaSubsampling::Monochrome),

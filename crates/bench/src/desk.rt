@@ -1,4 +1,4 @@
-//! What the cases of a type of pixels work on.
+//! The data that the cases of a type of pixels work on.
 
 use crate::cases::Case;
 use crate::error::BenchError;
@@ -11,10 +11,10 @@ use v_frame::frame::Frame;
 use v_frame::pixel::Pixel;
 use v_frame::plane::Plane;
 
-/// Bytes after each row of the source with a stride.
+/// The number of bytes after each row of the source with a stride.
 const TAIL: usize = 64;
 
-/// Frames, sources and targets.
+/// The frames, sources and targets of the cases.
 #[derive(Drop)]
 pub struct Desk<T: Pixel> {
     pub alloc: Global,
@@ -26,9 +26,9 @@ pub struct Desk<T: Pixel> {
     pub twin: Frame<T>,
     /// A frame in whose luma every sixteenth pixel differs.
     pub other: Frame<T>,
-    /// The pixels that luma has at first.
+    /// The initial pixels of the luma plane.
     pub source: Vec<T>,
-    /// The same pixels for the other frame.
+    /// The initial pixels of the luma plane of the other frame.
     pub other_source: Vec<T>,
     pub bytes: Bytes,
     pub places: Vec<(usize, usize)>,
@@ -36,10 +36,10 @@ pub struct Desk<T: Pixel> {
     pub value: T,
 }
 
-/// Sources and a target of bytes.
+/// The sources and a target of bytes.
 #[derive(Drop)]
 pub struct Bytes {
-    /// The source without tails.
+    /// The source without bytes between its rows.
     pub packed: Vec<u8>,
     /// The source with a stride.
     pub strided: Vec<u8>,
@@ -48,7 +48,7 @@ pub struct Bytes {
 }
 
 impl Bytes {
-    /// All of them, for rows of so many bytes.
+    /// Returns the sources and the target for rows of `row` bytes.
     fn new(alloc: Global, row: usize, height: usize, seed: usize) -> Result<Self, AllocError> {
         let stride = row.wrapping_add(TAIL);
         Ok(Bytes {
@@ -61,7 +61,7 @@ impl Bytes {
 }
 
 impl<T: Pixel> Desk<T> {
-    /// All of it, for a plan.
+    /// Returns all data for a plan.
     pub fn new(alloc: Global, plan: Plan, depth: u8) -> Result<Self, BenchError> {
         let (width, height) = (usize::from(plan.width), usize::from(plan.height));
         let (count, seed) = (width.wrapping_mul(height), usize::from(plan.seed));
@@ -80,7 +80,7 @@ impl<T: Pixel> Desk<T> {
         })
     }
 
-    /// Returns how many pixels a case handles.
+    /// Returns the number of pixels that a case processes.
     pub fn pixels_of(&self, case: Case) -> usize {
         match case {
             Case::PixelScattered | Case::PixelMutScattered => PLACES,
@@ -88,7 +88,7 @@ impl<T: Pixel> Desk<T> {
         }
     }
 
-    /// Gives the frames the luma that each case begins with.
+    /// Resets the frames to the luma with which each case begins.
     pub fn reset(&mut self) -> Result<(), BenchError> {
         self.frame.y_plane.copy_from_slice(self.source.as_slice())?;
         self.twin.y_plane.copy_from_slice(self.source.as_slice())?;
@@ -98,7 +98,7 @@ impl<T: Pixel> Desk<T> {
         Ok(())
     }
 
-    /// Changes a pixel in each frame and source, and which pixel is written, so that no two runs do the same.
+    /// Changes a pixel in each frame and each source, and the pixel that is written, so that no two runs do the same work.
     pub fn change(&mut self, run: usize) {
         let value = pixel_of::<T>(run.wrapping_add(usize::from(self.plan.seed)));
         self.value = value;
@@ -113,7 +113,7 @@ impl<T: Pixel> Desk<T> {
         set_entry(self.bytes.strided.as_mut_slice(), place, value.le_byte(0));
     }
 
-    /// What stands in a few places after a run.
+    /// Returns a number that depends on the data at a few places after a run.
     pub fn sample(&self, run: usize) -> u64 {
         let Some(&(x, y)) = self.places.get(PLACES.wrapping_sub(run)) else {
             return 0;
@@ -127,7 +127,7 @@ impl<T: Pixel> Desk<T> {
         u64::from(luma) + u64::from(chroma) + u64::from(byte)
     }
 
-    /// Returns a sum of all that the cases write, borders too, in which each place counts otherwise.
+    /// Returns a checksum of all data that the cases write, padding included. Each place has its own weight.
     pub fn checksum(&self) -> u64 {
         let mut sum = 0u64;
         for index in 0..3 {
@@ -146,14 +146,14 @@ impl<T: Pixel> Desk<T> {
     }
 }
 
-/// Writes a pixel, where it is there.
+/// Writes a pixel if its place exists.
 fn set_pixel<T: Pixel>(plane: &mut Plane<T>, x: usize, y: usize, value: T) {
     if let Some(pixel) = plane.pixel_mut(x, y) {
         *pixel = value;
     }
 }
 
-/// Writes an entry, where it is there.
+/// Writes an entry if its place exists.
 fn set_entry<E: Copy>(entries: &mut [E], place: usize, value: E) {
     if let Some(entry) = entries.get_mut(place) {
         *entry = value;

@@ -1,4 +1,4 @@
-//! Why the program gave up.
+//! The reasons for which the program stops.
 
 use std::alloc::AllocError;
 use std::io;
@@ -6,7 +6,7 @@ use thiserror::Error;
 use v_frame::frame::FrameError;
 use v_frame::plane::CopyError;
 
-/// An error of the arguments, of a call, of the clock or of printing.
+/// An error of the arguments, of a call of the library, of the clock or of printing.
 #[derive(Debug, Drop, Error)]
 pub enum BenchError {
     #[error("usage: bench WIDTH HEIGHT PADDING SEED REPETITIONS")]

@@ -1,9 +1,10 @@
-//! Times of the library: `bench WIDTH HEIGHT PADDING SEED REPETITIONS`. Without arguments it measures nothing.
+//! Measures the running times of the library: `bench WIDTH HEIGHT PADDING SEED REPETITIONS`. Without arguments it measures
+//! nothing.
 //!
-//! For each case and each type of pixels it prints a line: the case, the pixels that it handles, a checksum of all that it
-//! read and left, and the nanoseconds of each repetition. `tools/bench` runs it beside the same loops over the original
-//! crate. The sizes and the seed come from the arguments, and each run begins with another pixel changed, so that no work
-//! is done by the compiler or left out.
+//! It prints one line for each case and each type of pixels: the name of the case, the number of pixels that it processes, a
+//! checksum of all data that it read and wrote, and the nanoseconds of each repetition. `tools/bench` runs it beside the same
+//! loops over the original crate. The sizes and the seed are arguments, and each run begins with another pixel changed, so that
+//! the compiler can neither precompute nor drop the work.
 #![tactic(auto)]
 
 mod blocks;
@@ -35,7 +36,7 @@ fn main(rt: HostRuntime) -> ExitCode {
     }
 }
 
-/// Measures all cases, where there are arguments.
+/// Measures all cases if there are arguments.
 fn run(rt: &HostRuntime) -> Result<(), BenchError> {
     let mut words = env::args(rt)?.skip(1);
     let Some(width) = words.next() else {
@@ -52,7 +53,7 @@ fn run(rt: &HostRuntime) -> Result<(), BenchError> {
     measure_type::<u16>(rt, plan, "u16", 16)
 }
 
-/// Returns the number that an argument is.
+/// Parses an argument as a number.
 fn number(word: Option<String>) -> Result<u16, BenchError> {
     let word = word.ok_or(BenchError::Usage)?;
     word.parse::<u16>().map_err(|_| BenchError::Usage)
@@ -74,7 +75,7 @@ fn measure_type<T: Pixel>(
     Ok(())
 }
 
-/// Measures a case, and prints the checksum and the times that count.
+/// Measures a case, and prints the checksum and the times of all runs after the warm-up.
 fn measure<T: Pixel>(
     rt: &HostRuntime,
     plan: Plan,
@@ -103,7 +104,7 @@ fn measure<T: Pixel>(
     Ok(())
 }
 
-/// Returns a time as a number.
+/// Returns a time in nanoseconds.
 fn nanoseconds(time: Duration) -> u64 {
     u64::try_from(time.as_nanos()).unwrap_or(u64::MAX)
 }

@@ -4,15 +4,15 @@ use crate::plan::Plan;
 use std::alloc::{AllocError, Global};
 use v_frame::pixel::Pixel;
 
-/// Places that are read or written in no order.
+/// The number of places that are read or written in random order.
 pub const PLACES: usize = 100_000;
 
-/// Returns the pixel of a number: one below 251, so that no period fits a row.
+/// Returns the pixel for a number. Its value is below 251, a prime, so that no period fits a row.
 pub fn pixel_of<T: Pixel>(number: usize) -> T {
     T::from_u8((number % 251) as u8)
 }
 
-/// As many pixels, counted up from a number. Where there is a step, each pixel after so many is one higher.
+/// Returns `count` pixels, counted up from `first`. If `step` is not zero, each `step`-th pixel is larger by one.
 pub fn pixels<T: Pixel>(
     alloc: Global,
     count: usize,
@@ -32,7 +32,7 @@ pub fn pixels<T: Pixel>(
     Ok(pixels)
 }
 
-/// As many bytes, counted up from a number.
+/// Returns `count` bytes, counted up from `first`.
 pub fn bytes(alloc: Global, count: usize, first: usize) -> Result<Vec<u8>, AllocError> {
     let mut bytes = Vec::with_capacity(alloc, count)?;
     for place in 0..count {
@@ -41,7 +41,7 @@ pub fn bytes(alloc: Global, count: usize, first: usize) -> Result<Vec<u8>, Alloc
     Ok(bytes)
 }
 
-/// Places of the visible rectangle, in the order of a linear congruence.
+/// Returns places of the visible rectangle, in the order of a linear congruential generator.
 pub fn places(alloc: Global, plan: Plan) -> Result<Vec<(usize, usize)>, AllocError> {
     let mut places = Vec::with_capacity(alloc, PLACES)?;
     let mut state = u32::from(plan.seed);
@@ -58,7 +58,7 @@ pub fn places(alloc: Global, plan: Plan) -> Result<Vec<(usize, usize)>, AllocErr
     Ok(places)
 }
 
-/// Returns the next state of the congruence.
+/// Returns the next state of the generator.
 fn next(state: u32) -> u32 {
     state.wrapping_mul(1_664_525).wrapping_add(1_013_904_223)
 }

@@ -1,19 +1,20 @@
-//! What is measured, and how often.
+//! The sizes and the number of repetitions of a measurement.
 
-/// Runs of a case that aren't reported: until then the C library asks the system for memory at each build.
+/// The number of warm-up runs of a case, whose times are not reported. In these runs the C library still requests memory from
+/// the system.
 pub const UNTIMED: usize = 12;
 
-/// The numbers of the arguments.
+/// The numbers from the arguments.
 #[derive(Clone, Copy)]
 pub struct Plan {
-    /// The columns of luma.
+    /// The width of luma in pixels.
     pub width: u16,
-    /// The rows of luma.
+    /// The height of luma in pixels.
     pub height: u16,
-    /// The border of luma on each side.
+    /// The padding of luma on each side in pixels.
     pub padding: u16,
-    /// What the pixels and places follow from.
+    /// The seed from which pixels and places are computed.
     pub seed: u16,
-    /// How often each case is measured.
+    /// The number of repetitions of each case.
     pub repetitions: u16,
 }

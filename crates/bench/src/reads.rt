@@ -4,18 +4,18 @@ use v_frame::pixel::Pixel;
 use v_frame::plane::Plane;
 use v_frame_ops::{sum_of_absolute_differences, sum_of_squared_errors};
 
-/// One pixel more in a sum.
+/// Adds one pixel to a sum.
 fn added<T: Pixel>(sum: u64, pixel: T) -> u64 {
     sum.wrapping_add(u64::from(pixel.into_u16()))
 }
 
-/// Compares two planes, borders too.
+/// Compares two planes, padding included.
 #[inline(never)]
 pub fn are_equal<T: Pixel>(a: &Plane<T>, b: &Plane<T>) -> bool {
     a == b
 }
 
-/// Sums the pixels of all rows, each by its number.
+/// Adds up the pixels of all rows, which are read with `row`.
 #[inline(never)]
 pub fn sum_by_row<T: Pixel>(plane: &Plane<T>) -> u64 {
     let mut sum = 0;
@@ -29,7 +29,7 @@ pub fn sum_by_row<T: Pixel>(plane: &Plane<T>) -> u64 {
     sum
 }
 
-/// Sums the pixels of the rows that an iterator gives.
+/// Adds up the pixels of all rows, which are read with the iterator `rows`.
 #[inline(never)]
 pub fn sum_by_rows<T: Pixel>(plane: &Plane<T>) -> u64 {
     let mut sum = 0;
@@ -41,7 +41,7 @@ pub fn sum_by_rows<T: Pixel>(plane: &Plane<T>) -> u64 {
     sum
 }
 
-/// Sums all pixels, each by its column and row.
+/// Adds up all pixels, which are read with `pixel`.
 #[inline(never)]
 pub fn sum_by_pixel<T: Pixel>(plane: &Plane<T>) -> u64 {
     let mut sum = 0;
@@ -55,7 +55,7 @@ pub fn sum_by_pixel<T: Pixel>(plane: &Plane<T>) -> u64 {
     sum
 }
 
-/// Sums the pixels that an iterator gives.
+/// Adds up all pixels, which are read with the iterator `pixels`.
 #[inline(never)]
 pub fn sum_by_pixels<T: Pixel>(plane: &Plane<T>) -> u64 {
     let mut sum = 0;
@@ -65,7 +65,7 @@ pub fn sum_by_pixels<T: Pixel>(plane: &Plane<T>) -> u64 {
     sum
 }
 
-/// The same from the last pixel to the first.
+/// Adds up all pixels with the iterator `pixels`, from the last pixel to the first.
 #[inline(never)]
 pub fn sum_by_pixels_back<T: Pixel>(plane: &Plane<T>) -> u64 {
     let mut sum = 0;
@@ -75,7 +75,7 @@ pub fn sum_by_pixels_back<T: Pixel>(plane: &Plane<T>) -> u64 {
     sum
 }
 
-/// Sums the pixels of places.
+/// Adds up the pixels at these places.
 #[inline(never)]
 pub fn sum_of_places<T: Pixel>(plane: &Plane<T>, places: &[(usize, usize)]) -> u64 {
     let mut sum = 0;
@@ -87,7 +87,7 @@ pub fn sum_of_places<T: Pixel>(plane: &Plane<T>, places: &[(usize, usize)]) -> u
     sum
 }
 
-/// Returns how many pixels differ.
+/// Returns the number of pixels that differ.
 #[inline(never)]
 pub fn count_differing<T: Pixel>(a: &Plane<T>, b: &Plane<T>) -> u64 {
     let mut count = 0u64;
@@ -99,7 +99,7 @@ pub fn count_differing<T: Pixel>(a: &Plane<T>, b: &Plane<T>) -> u64 {
     count
 }
 
-/// Sums the bytes of all pixels.
+/// Adds up the bytes of all pixels.
 #[inline(never)]
 pub fn sum_by_byte_data<T: Pixel>(plane: &Plane<T>) -> u64 {
     let mut sum = 0u64;
@@ -109,7 +109,7 @@ pub fn sum_by_byte_data<T: Pixel>(plane: &Plane<T>) -> u64 {
     sum
 }
 
-/// Sums how far the pixels of two planes lie apart.
+/// Returns the sum of absolute differences of two planes.
 #[inline(never)]
 pub fn absolute_differences<T: Pixel>(a: &Plane<T>, b: &Plane<T>) -> u64 {
     if a.width() != b.width() || a.height() != b.height() {
@@ -119,7 +119,7 @@ pub fn absolute_differences<T: Pixel>(a: &Plane<T>, b: &Plane<T>) -> u64 {
     u64::try_from(sum).unwrap_or(0)
 }
 
-/// Sums the squares of how far the pixels of two planes lie apart.
+/// Returns the sum of squared errors of two planes.
 #[inline(never)]
 pub fn squared_errors<T: Pixel>(a: &Plane<T>, b: &Plane<T>) -> u64 {
     if a.width() != b.width() || a.height() != b.height() {

@@ -1,4 +1,4 @@
-//! Cases that make planes and frames.
+//! Cases that create planes and frames.
 
 use crate::desk::Desk;
 use crate::error::BenchError;
@@ -9,7 +9,7 @@ use v_frame::frame::{Frame, FrameBuilder, FrameError};
 use v_frame::pixel::Pixel;
 use v_frame::plane::Plane;
 
-/// Builds a frame of a plan.
+/// Builds a frame for a plan.
 #[inline(never)]
 pub fn build<T: Pixel>(
     alloc: Global,
@@ -31,7 +31,7 @@ pub fn build<T: Pixel>(
     .build(alloc)
 }
 
-/// Builds a frame, uses one pixel, and drops it.
+/// Builds a frame, uses one pixel, and drops the frame.
 pub fn build_one<T: Pixel>(desk: &Desk<T>, format: ChromaSubsampling) -> Result<u64, BenchError> {
     let mut frame: Frame<T> = build(desk.alloc, desk.plan, format, desk.depth)?;
     let seen = used(&mut frame.y_plane, desk);
@@ -39,7 +39,7 @@ pub fn build_one<T: Pixel>(desk: &Desk<T>, format: ChromaSubsampling) -> Result<
     Ok(seen)
 }
 
-/// Clones a plane, uses one pixel, and drops it.
+/// Clones a plane, uses one pixel, and drops the clone.
 pub fn clone_plane<T: Pixel>(desk: &Desk<T>) -> Result<u64, BenchError> {
     let mut plane = cloned_plane(desk.alloc, &desk.frame.y_plane)?;
     let seen = used(&mut plane, desk);
@@ -47,7 +47,7 @@ pub fn clone_plane<T: Pixel>(desk: &Desk<T>) -> Result<u64, BenchError> {
     Ok(seen)
 }
 
-/// Clones a frame, uses one pixel, and drops it.
+/// Clones a frame, uses one pixel, and drops the clone.
 pub fn clone_frame<T: Pixel>(desk: &Desk<T>) -> Result<u64, BenchError> {
     let mut frame = cloned_frame(desk.alloc, &desk.frame)?;
     let seen = used(&mut frame.y_plane, desk);
@@ -65,7 +65,7 @@ fn cloned_frame<T: Pixel>(alloc: Global, frame: &Frame<T>) -> Result<Frame<T>, A
     frame.clone(alloc)
 }
 
-/// Writes a pixel of a plane and reads another, so that the plane has to be made.
+/// Writes a pixel of a plane and reads another one, so that the compiler cannot drop the plane.
 #[inline(never)]
 fn used<T: Pixel>(plane: &mut Plane<T>, desk: &Desk<T>) -> u64 {
     let x = plane.width() / 2;

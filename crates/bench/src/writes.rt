@@ -5,7 +5,7 @@ use v_frame::pixel::{Pixel, fill_row};
 use v_frame::plane::{CopyError, Plane};
 use v_frame_ops::{downscale, fill, pad};
 
-/// Fills all rows, each by its number.
+/// Fills all rows, which are borrowed with `row_mut`.
 #[inline(never)]
 pub fn fill_by_row_mut<T: Pixel>(plane: &mut Plane<T>, value: T) {
     for y in 0..plane.height() {
@@ -15,7 +15,7 @@ pub fn fill_by_row_mut<T: Pixel>(plane: &mut Plane<T>, value: T) {
     }
 }
 
-/// Fills the rows that an iterator lends.
+/// Fills all rows, which are borrowed with the iterator `rows_mut`.
 #[inline(never)]
 pub fn fill_by_rows_mut<T: Pixel>(plane: &mut Plane<T>, value: T) {
     for row in plane.rows_mut() {
@@ -23,7 +23,7 @@ pub fn fill_by_rows_mut<T: Pixel>(plane: &mut Plane<T>, value: T) {
     }
 }
 
-/// Writes all pixels, each by its column and row.
+/// Writes all pixels with `pixel_mut`.
 #[inline(never)]
 pub fn fill_by_pixel_mut<T: Pixel>(plane: &mut Plane<T>, value: T) {
     for y in 0..plane.height() {
@@ -35,7 +35,7 @@ pub fn fill_by_pixel_mut<T: Pixel>(plane: &mut Plane<T>, value: T) {
     }
 }
 
-/// Writes the pixels that an iterator lends.
+/// Writes all pixels with the iterator `pixels_mut`.
 #[inline(never)]
 pub fn fill_by_pixels_mut<T: Pixel>(plane: &mut Plane<T>, value: T) {
     for pixel in plane.pixels_mut() {
@@ -43,7 +43,7 @@ pub fn fill_by_pixels_mut<T: Pixel>(plane: &mut Plane<T>, value: T) {
     }
 }
 
-/// Writes the pixels of places.
+/// Writes the pixels at these places.
 #[inline(never)]
 pub fn fill_places<T: Pixel>(plane: &mut Plane<T>, places: &[(usize, usize)], value: T) {
     for &(x, y) in places {
@@ -53,19 +53,19 @@ pub fn fill_places<T: Pixel>(plane: &mut Plane<T>, places: &[(usize, usize)], va
     }
 }
 
-/// Fills a plane by one call.
+/// Fills a plane with one call.
 #[inline(never)]
 pub fn fill_plane<T: Pixel>(plane: &mut Plane<T>, value: T) {
     fill(plane, value);
 }
 
-/// Continues a plane into its border.
+/// Fills the padding of a plane.
 #[inline(never)]
 pub fn pad_plane<T: Pixel>(plane: &mut Plane<T>) {
     pad(plane);
 }
 
-/// Writes a plane in half the size into U.
+/// Writes a plane in half its size into the U plane of a frame.
 #[inline(never)]
 pub fn halve<T: Pixel>(source: &Plane<T>, target: &mut Frame<T>) {
     let Some(half) = target.plane_mut(1) else {
@@ -78,19 +78,19 @@ pub fn halve<T: Pixel>(source: &Plane<T>, target: &mut Frame<T>) {
     }
 }
 
-/// Copies pixels.
+/// Copies pixels into a plane.
 #[inline(never)]
 pub fn copy_pixels<T: Pixel>(plane: &mut Plane<T>, source: &[T]) -> Result<(), CopyError> {
     plane.copy_from_slice(source)
 }
 
-/// Copies bytes without tails.
+/// Copies bytes without gaps between the rows into a plane.
 #[inline(never)]
 pub fn copy_packed<T: Pixel>(plane: &mut Plane<T>, source: &[u8]) -> Result<(), CopyError> {
     plane.copy_from_u8_slice(source)
 }
 
-/// Copies bytes with a stride.
+/// Copies bytes with a stride into a plane.
 #[inline(never)]
 pub fn copy_strided<T: Pixel>(
     plane: &mut Plane<T>,

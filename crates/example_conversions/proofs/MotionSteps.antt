@@ -1,4 +1,4 @@
--- The first match with the least cost: of one position, of one more column, and of one more row.
+-- The first position with the smallest cost: among one position, with one more column, and with one more row.
 use Rattle.std.proofs.Common.{ℕ, ◌≡◌, ◌+◌, ◌-◌, ◌<◌, ◌≤◌, inl, inr, arith, ap, ◌∙◌, sym}
 use Rattle.std.proofs.lemmas.Bool.{cases_lt}
 use Rattle.example_conversions.specs.MotionSearch.{IsFirstLeast, IsPosition}
@@ -16,7 +16,7 @@ module _ (cost_of : ℕ → ℕ → ℕ) (x y : ℕ) where
   same_cost : (i j k l : ℕ) → i ≡ k → j ≡ l → cost_of i j ≡ cost_of k l
   same_cost i j k l across down = ap (λ n. cost_of n j) across ∙ ap (cost_of k) down
 
-  -- one position alone
+  -- A single position.
   pub one_found : (found : BlockMatch) → found.x ≡ x → found.y ≡ y → found.cost ≡ cost_of x y
       → IsFirstLeast cost_of (area_of x y 1 1) found
   one_found found across down is = record {
@@ -27,7 +27,7 @@ module _ (cost_of : ℕ → ℕ → ℕ) (x y : ℕ) where
     before = λ i at h. absurd (omega (arith, at));
   }
 
-  -- one more column in a row
+  -- One more column in a row.
   module _ (columns : ℕ) (best found : BlockMatch) (so_far : IsFirstLeast cost_of (area_of x y columns 1) best)
       (here : IsFirstLeast cost_of (area_of (x + columns) y 1 1) found) where
     at_left : {i j : ℕ} → IsPosition (area_of x y (columns + 1) 1) i j → i < x + columns
@@ -68,7 +68,7 @@ module _ (cost_of : ℕ → ℕ → ℕ) (x y : ℕ) where
           omega (arith, order, so_far.least i found.y (at_left at (omega (arith, here.position.right, h))));
     }
 
-  -- one more row
+  -- The loop step: one more row.
   module _ (columns rows : ℕ) (best found : BlockMatch) (so_far : IsFirstLeast cost_of (area_of x y columns rows) best)
       (here : IsFirstLeast cost_of (area_of x (y + rows) columns 1) found) where
     at_top : {i j : ℕ} → IsPosition (area_of x y columns (rows + 1)) i j → j < y + rows
@@ -109,7 +109,7 @@ module _ (cost_of : ℕ → ℕ → ℕ) (x y : ℕ) where
       before = λ i at h. here.before i (at_bottom at here.position.top) h;
     }
 
--- the columns up to number i, or the rows up to number j, and one more
+-- The columns up to number `i`, or the rows up to number `j`, and one more.
 module _ (cost_of : ℕ → ℕ → ℕ) (x y : ℕ) (best found : BlockMatch) where
   module _ (i : ℕ) (low : x ≤ i) (so_far : IsFirstLeast cost_of (area_of x y (i - x) 1) best) (across : found.x ≡ i)
       (down : found.y ≡ y) (is : found.cost ≡ cost_of i y) where

@@ -1,4 +1,4 @@
-//! Pictures shown in RGB, and what is left of a color.
+//! Pictures converted to RGB and from RGB, and the accuracy of a conversion in both directions.
 ghost use Rattle.std.specs.Prelude.{◌≡◌, ◌*◌, [], ◌∷◌, length, slice_index};
 ghost use Rattle.v_frame.specs.Prelude.{height_of, strided_rows, table_of, width_of, KeepsBorder, KeepsRest, RowsFit};
 ghost use Rattle.v_frame_rgb.specs.Prelude.{color_rows, rgb_matrix_of, sample_rows, y_of, yuv_matrix_of};
@@ -11,8 +11,8 @@ use v_frame_rgb::{
     rows,
 };
 
-/// Shows luma and chroma of one size on a screen that stores blue, green, red and opacity, each row a stride after the one
-/// before. The rest of its memory stays.
+/// Converts luma and chroma of the same size to the memory of a screen, which stores blue, green, red and alpha bytes and has
+/// this `stride`. The other bytes of the memory stay unchanged.
 pub fn show_on_screen(
     y: &RowsRef<'_, u8>,
     u: &RowsRef<'_, u8>,
@@ -36,7 +36,7 @@ pub fn show_on_screen(
     rows::yuv444_to_rgb::<Bgra>(y, u, v, screen, 4 * width, height, stride, matrix);
 }
 
-/// Makes a plane the luma of a picture of red, green and blue, as a JPEG file has it. Its border stays.
+/// Converts an RGB picture to luma as in a JPEG file and writes it to `plane`. The padding of the plane stays unchanged.
 pub fn luma_of_photo(photo: &RowsRef<'_, u8>, plane: &mut Plane<u8>)
     requires wide { width_of photo.now ≡ 3 * plane.old.geometry.width }
     requires high { height_of photo.now ≡ plane.old.geometry.height }
@@ -49,8 +49,8 @@ pub fn luma_of_photo(photo: &RowsRef<'_, u8>, plane: &mut Plane<u8>)
     v_frame_rgb::rgb_to_channel::<Rgb, Luma>(photo, plane, matrix);
 }
 
-/// Returns what is left of a color that was stored as luma and chroma: red and green are off by at most 1, and blue by at
-/// most 1 in full range, and 2 in limited range.
+/// Returns a color after it was stored as luma and chroma. Red and green differ from `color` by at most 1. Blue differs by at
+/// most 1 in full range and by at most 2 in limited range.
 pub fn stored(color: Color, standard: Standard, range: ColorRange) -> Color
     ensures { ComesBack range color result }
 {

@@ -1,4 +1,4 @@
-//! Pictures composed of others.
+//! Pictures composed of several pictures.
 ghost use Rattle.std.specs.Prelude.{◌≡◌, ◌+◌, ◌*◌, ◌<◌, ◌≤◌, ℕ, Some, min};
 ghost use Rattle.std.specs.Int.{abs_diff};
 ghost use Rattle.v_frame.specs.Prelude.{pixel_at, table_of, KeepsBorder};
@@ -7,7 +7,7 @@ ghost use Rattle.v_frame_ops.specs.Prelude.{combined, weighted_mean, LiesOn};
 use v_frame::plane::{Plane, PlaneRef};
 use v_frame_ops::{blend_region, blend_region_with_mask, copy_region_clipped, difference};
 
-/// Shows a logo over a picture of 8 bits, half transparent.
+/// Blends a logo over an 8-bit picture, half transparent.
 pub fn stamp(logo: &PlaneRef<'_, u8>, picture: &mut Plane<u8>, x: usize, y: usize)
     requires wide { x + logo.now.geometry.width ≤ picture.old.geometry.width }
     requires high { y + logo.now.geometry.height ≤ picture.old.geometry.height }
@@ -21,7 +21,7 @@ pub fn stamp(logo: &PlaneRef<'_, u8>, picture: &mut Plane<u8>, x: usize, y: usiz
     blend_region(logo, picture, x, y, 128);
 }
 
-/// Shows a subtitle over a picture of 10 bits, where its mask isn't 0.
+/// Writes a subtitle over a 10-bit picture, in proportion to its mask. Where the mask is 0, the picture stays unchanged.
 pub fn show_subtitle(
     text: &PlaneRef<'_, u16>,
     mask: &PlaneRef<'_, u8>,
@@ -41,7 +41,8 @@ pub fn show_subtitle(
     blend_region_with_mask(text, mask, picture, x, y);
 }
 
-/// Moves a picture by so many columns and rows into another, whose other pixels stay.
+/// Copies a picture into `target`, moved by this number of columns and rows and clipped. The other pixels of `target` stay
+/// unchanged.
 pub fn shift_into(picture: &PlaneRef<'_, u8>, target: &mut Plane<u8>, right: isize, down: isize)
     ensures moved { (i j k l : ℕ) → i < picture.now.geometry.width → j < picture.now.geometry.height
         → k < target.old.geometry.width → l < target.old.geometry.height → LiesOn right down i j k l
@@ -51,7 +52,7 @@ pub fn shift_into(picture: &PlaneRef<'_, u8>, target: &mut Plane<u8>, right: isi
     copy_region_clipped(picture, target, right, down);
 }
 
-/// Shows how far a picture of 8 bits is from another, eight times as large.
+/// Replaces an 8-bit picture by its difference from `other`, multiplied by eight.
 pub fn show_difference(picture: &mut Plane<u8>, other: &PlaneRef<'_, u8>)
     requires wide { other.now.geometry.width ≡ picture.old.geometry.width }
     requires high { other.now.geometry.height ≡ picture.old.geometry.height }

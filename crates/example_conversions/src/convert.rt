@@ -1,4 +1,4 @@
-//! Bit depths and pixel types.
+//! Conversions of bit depths and types of pixels.
 ghost use Rattle.std.specs.Prelude.{◌≡◌, ◌/◌, ◌+◌, ◌-◌, ◌*◌, ◌<◌, ℕ, min, nat_lt, if◌then◌else◌};
 ghost use Rattle.std.specs.Bool.{OnTrue, OnFalse};
 ghost use Rattle.v_frame.specs.Prelude.{one_byte, pixel_at, table_of, tables_of, two_bytes, KeepsBorder, KeepsBorders};
@@ -8,7 +8,7 @@ use v_frame::frame::Frame;
 use v_frame::plane::{Plane, PlaneRef};
 use v_frame_convert::{convert_depth, convert_frame, frames_fit, map_into, upscale};
 
-/// Shows a picture of 8 bits in 10.
+/// Converts an 8-bit picture to 10 bits.
 pub fn widen(source: &PlaneRef<'_, u8>, target: &mut Plane<u16>)
     requires wide { source.now.geometry.width ≡ target.old.geometry.width }
     requires high { source.now.geometry.height ≡ target.old.geometry.height }
@@ -18,7 +18,7 @@ pub fn widen(source: &PlaneRef<'_, u8>, target: &mut Plane<u16>)
     map_into(source, target, |p: u8| u16::from(p) * 4);
 }
 
-/// Shows a picture of 10 bits in 8, each value rounded to the nearest.
+/// Converts a 10-bit picture to 8 bits, with each value rounded to the nearest integer.
 pub fn narrow(source: &PlaneRef<'_, u16>, target: &mut Plane<u8>)
     requires wide { source.now.geometry.width ≡ target.old.geometry.width }
     requires high { source.now.geometry.height ≡ target.old.geometry.height }
@@ -29,7 +29,7 @@ pub fn narrow(source: &PlaneRef<'_, u16>, target: &mut Plane<u8>)
     convert_depth(source, target, 10, 8);
 }
 
-/// Shows in black and white which pixels of a picture are at least `least`.
+/// Writes a black-and-white picture that shows which pixels of `source` have at least the value `least`.
 pub fn threshold(source: &PlaneRef<'_, u16>, target: &mut Plane<u8>, least: u16)
     requires wide { source.now.geometry.width ≡ target.old.geometry.width }
     requires high { source.now.geometry.height ≡ target.old.geometry.height }
@@ -40,7 +40,7 @@ pub fn threshold(source: &PlaneRef<'_, u16>, target: &mut Plane<u8>, least: u16)
     map_into(source, target, |p: u16| if p < least { 0 } else { 255 });
 }
 
-/// Shows a chroma plane of 4:2:0 at the size of luma.
+/// Enlarges a chroma plane of a 4:2:0 frame to the size of the luma plane.
 pub fn chroma_at_full_size(source: &PlaneRef<'_, u8>, target: &mut Plane<u8>)
     requires wide { IsSubsampledSize target.old.geometry.width 2 source.now.geometry.width }
     requires high { IsSubsampledSize target.old.geometry.height 2 source.now.geometry.height }
@@ -51,8 +51,8 @@ pub fn chroma_at_full_size(source: &PlaneRef<'_, u8>, target: &mut Plane<u8>)
     upscale(source, target, 2, 2);
 }
 
-/// Shows a frame of 8 bits in another one, of more bits or another chroma format, where the sizes of their planes belong
-/// together. Returns whether they do. If not, the other frame stays.
+/// Converts an 8-bit frame to the bit depth and chroma format of `target`, if the sizes of the planes correspond. Returns
+/// whether they do. If they do not, `target` stays unchanged.
 pub fn show_frame(source: &Frame<u8>, target: &mut Frame<u16>) -> bool
     ensures shown { OnTrue result (tables_of target.new
         ≡ converted_tables one_byte two_bytes source.now target.old) }

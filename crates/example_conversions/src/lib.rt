@@ -1,4 +1,4 @@
-//! What users write over the crates that convert pictures: small functions with exact contracts, most without a proof file.
+//! Examples for the crates that convert pictures: small functions with exact contracts, most of which need no proof by hand.
 #![tactic(auto)]
 
 pub mod colors;

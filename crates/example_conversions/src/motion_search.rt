@@ -1,4 +1,4 @@
-//! Motion search: where in another picture a block is found again.
+//! Motion search: the position in another picture that matches a block best.
 ghost use Rattle.std.specs.Prelude.{◌≡◌, ◌+◌, ◌<◌, ◌≤◌};
 ghost use Rattle.v_frame.specs.Prelude.{table_of};
 ghost use Rattle.example_conversions.specs.MotionSearch.{IsFirstLeast, cost_at};
@@ -7,34 +7,35 @@ use v_frame::pixel::Pixel;
 use v_frame::plane::PlaneRef;
 use v_frame_ops::sum_of_absolute_differences;
 
-/// The positions that a search tries: so many columns and rows of them.
+/// The positions that a search tries: a rectangle of columns and rows.
 #[derive(Clone, Copy, Debug, PartialEq, Eq)]
 pub struct SearchArea {
     /// The first column.
     pub x: usize,
     /// The first row.
     pub y: usize,
-    /// How many columns.
+    /// The number of columns.
     pub columns: usize,
-    /// How many rows.
+    /// The number of rows.
     pub rows: usize,
 }
 
-/// Where a block was found.
+/// The position at which a block matches best, and its cost.
 #[derive(Clone, Copy, Debug, PartialEq, Eq)]
 pub struct BlockMatch {
-    /// The column of its first pixel.
+    /// The column of the first pixel of the match.
     pub x: usize,
-    /// The row of its first pixel.
+    /// The row of the first pixel of the match.
     pub y: usize,
-    /// The sum of the absolute differences between the block and the pixels there.
+    /// The sum of absolute differences between the block and the pixels at this position.
     pub cost: u128,
 }
 
-/// Returns where in a plane a block is found: the position of an area with the least sum of absolute differences, and the
-/// first of these, row after row from the top and each from the left.
+/// Returns the position in `area` at which `block` matches `plane` best, which means with the smallest sum of absolute
+/// differences. If several positions have the same sum, the first one is returned, with positions ordered from left to right
+/// within a row and from top to bottom.
 ///
-/// The area has a position, and at each of them the block lies inside the plane.
+/// The area is not empty, and at each of its positions the block lies inside the plane.
 pub fn find_block<T: Pixel>(
     plane: &PlaneRef<'_, T>,
     block: &PlaneRef<'_, T>,
@@ -49,7 +50,7 @@ pub fn find_block<T: Pixel>(
     ensures { IsFirstLeast (cost_at T.form.value (table_of plane.now) (table_of block.now)) area
         result }
 {
-    // Sizes that were read fit their type, and so do positions inside them.
+    // Reading the sizes shows that they fit their type, and so do the positions inside them.
     let _sizes = (plane.width(), plane.height());
     let mut best = best_of_row(plane, block, area, area.y);
     for y in area.y + 1..area.y + area.rows {
@@ -61,7 +62,7 @@ pub fn find_block<T: Pixel>(
     best
 }
 
-/// Returns the first position with the least sum in one row of an area.
+/// Returns the first position with the smallest sum in row `y` of the area.
 fn best_of_row<T: Pixel>(
     plane: &PlaneRef<'_, T>,
     block: &PlaneRef<'_, T>,
@@ -86,7 +87,7 @@ fn best_of_row<T: Pixel>(
     best
 }
 
-/// Returns what a position costs.
+/// Returns the match at one position, with its cost.
 #[tactic(auto, unfolding(crate::specs::MotionSearch::cost_at))]
 fn match_at<T: Pixel>(
     plane: &PlaneRef<'_, T>,

@@ -12,7 +12,7 @@ use v_frame_semi_planar::{
     SemiPlanarError, SemiPlanarFormat, interleave, to_top_bits, write_frame,
 };
 
-/// Returns the NV12 bytes of a picture of 8 bits in 4:2:0.
+/// Returns the bytes of an 8-bit 4:2:0 frame as NV12.
 pub fn nv12_bytes(alloc: Global, frame: &Frame<u8>) -> Result<Vec<u8>, SemiPlanarError>
     ensures { IfOk result (λ bytes. bytes.items
         ≡ semi_planar_bytes one_byte SemiPlanarFormat.Nv12 (tables_of frame.now)) }
@@ -22,7 +22,7 @@ pub fn nv12_bytes(alloc: Global, frame: &Frame<u8>) -> Result<Vec<u8>, SemiPlana
     Ok(writer.into_inner())
 }
 
-/// Shows in one plane the chroma of NV21, V first.
+/// Interleaves the chroma of NV21 in one plane, with V first.
 pub fn chroma_of_nv21(u: &PlaneRef<'_, u8>, v: &PlaneRef<'_, u8>, target: &mut Plane<u8>)
     requires wide { target.old.geometry.width ≡ 2 * v.now.geometry.width }
     requires high { target.old.geometry.height ≡ v.now.geometry.height }
@@ -34,7 +34,7 @@ pub fn chroma_of_nv21(u: &PlaneRef<'_, u8>, v: &PlaneRef<'_, u8>, target: &mut P
     interleave(v, u, target);
 }
 
-/// Makes the samples of a plane those of P010.
+/// Converts the 10-bit samples of a plane to samples of P010.
 pub fn words_of_p010(plane: &mut Plane<u16>)
     ensures table { table_of plane.new
         ≡ mapped (mapped (λ p. p * 64 % 65536)) (table_of plane.old) }

@@ -1,4 +1,4 @@
-//! Pictures in another size.
+//! Resized pictures.
 ghost use Rattle.std.specs.Prelude.{◌≡◌, ◌^◌, ◌<◌, ℕ, Some};
 ghost use Rattle.std.specs.Bool.{OnFalse, OnTrue};
 ghost use Rattle.v_frame.specs.Prelude.{pixel_at, table_of, KeepsBorder};
@@ -9,7 +9,7 @@ use v_frame::plane::{Plane, PlaneRef};
 use v_frame_resize::rows::can_resize;
 use v_frame_resize::{resize_area, resize_nearest};
 
-/// Makes a plane a thumbnail of another. Returns whether their sizes can be counted; nothing is written otherwise.
+/// Resizes a plane to a thumbnail. Returns false and writes nothing if the sizes are too large for [`resize_area`].
 pub fn make_thumbnail<T: Pixel>(source: &PlaneRef<'_, T>, thumbnail: &mut Plane<T>) -> bool
     ensures pixels { OnTrue result ((x y : ℕ) → x < thumbnail.old.geometry.width
         → y < thumbnail.old.geometry.height → pixel_at (table_of thumbnail.new) x y
@@ -26,7 +26,7 @@ pub fn make_thumbnail<T: Pixel>(source: &PlaneRef<'_, T>, thumbnail: &mut Plane<
     true
 }
 
-/// Shows a mask, of which no two values may be mixed, in the size of another plane.
+/// Resizes a mask, whose values must not be mixed, to the size of another plane.
 pub fn show_mask(mask: &PlaneRef<'_, u8>, target: &mut Plane<u8>)
     requires wide { target.old.geometry.width < 2 ^ 62 }
     requires high { target.old.geometry.height < 2 ^ 62 }

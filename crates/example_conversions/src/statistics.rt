@@ -1,4 +1,4 @@
-//! What users ask of pictures: how many pixels changed, how bright one is, and what SSIM needs of a block.
+//! Questions about pictures: the number of pixels that changed, the brightness, and the sums that SSIM requires for a block.
 ghost use Rattle.std.specs.Prelude.{◌≡◌, ◌/◌, IfOk, count_by, length, nat_eq, nat_lt, not};
 ghost use Rattle.v_frame.specs.Prelude.{IsInside, rectangle, row_major, table_of};
 ghost use Rattle.v_frame_statistics.specs.Prelude.{ArePairSums, IsGreatest, IsLeast, occurrences, passing_pairs, sum_of_values};
@@ -12,7 +12,7 @@ use v_frame_statistics::{
     sum_and_count,
 };
 
-/// Returns how many pixels of two planes of one size are not the same.
+/// Returns the number of pixels that differ between two planes of the same size.
 pub fn changed_pixels(a: &PlaneRef<'_, u8>, b: &PlaneRef<'_, u8>) -> usize
     requires wide { a.now.geometry.width ≡ b.now.geometry.width }
     requires high { a.now.geometry.height ≡ b.now.geometry.height }
@@ -22,7 +22,7 @@ pub fn changed_pixels(a: &PlaneRef<'_, u8>, b: &PlaneRef<'_, u8>) -> usize
     count_pairs(a, b, |p, q| p != q)
 }
 
-/// Returns how many pixels are darker than in another plane of one size.
+/// Returns the number of pixels of `a` that are darker than in `b`. Both planes have the same size.
 pub fn darker_pixels(a: &PlaneRef<'_, u16>, b: &PlaneRef<'_, u16>) -> usize
     requires wide { a.now.geometry.width ≡ b.now.geometry.width }
     requires high { a.now.geometry.height ≡ b.now.geometry.height }
@@ -32,32 +32,32 @@ pub fn darker_pixels(a: &PlaneRef<'_, u16>, b: &PlaneRef<'_, u16>) -> usize
     count_pairs(a, b, |p, q| p < q)
 }
 
-/// Returns how many pixels are brighter than a limit.
+/// Returns the number of pixels that are brighter than `limit`.
 pub fn bright_pixels(plane: &PlaneRef<'_, u16>, limit: u16) -> usize
     ensures { result ≡ count_by (λ p. nat_lt limit p) (row_major (table_of plane.now)) }
 {
     count_pixels(plane, |p| p > limit)
 }
 
-/// The same of rows that are kept elsewhere.
+/// Returns the number of pixels that are brighter than `limit`, for rows outside a plane.
 pub fn bright_pixels_of_rows(rows: &RowsRef<'_, u8>, limit: u8) -> usize
     ensures { result ≡ count_by (λ p. nat_lt limit p) (row_major rows.now) }
 {
     rows::count_pixels(rows, |p| p > limit)
 }
 
-/// Returns how many pixels of a plane have a value.
+/// Returns the number of pixels of a plane with this value.
 pub fn pixels_of_value(plane: &PlaneRef<'_, u8>, value: u8) -> u64
     ensures { result ≡ occurrences value (row_major (table_of plane.now)) }
 {
     histogram(plane)[usize::from(value)]
 }
 
-/// Returns how many pixels of a plane of 10 bits are white: 940.
+/// Returns the number of white pixels of a 10-bit plane, which have the value 940.
 ///
 /// # Errors
 ///
-/// [`AllocError`] where a request for memory was refused.
+/// Returns [`AllocError`] if memory cannot be allocated.
 pub fn white_pixels(alloc: Global, plane: &PlaneRef<'_, u16>) -> Result<u64, AllocError>
     ensures { IfOk result (λ count. count ≡ occurrences 940 (row_major (table_of plane.now))) }
 {
@@ -65,7 +65,7 @@ pub fn white_pixels(alloc: Global, plane: &PlaneRef<'_, u16>) -> Result<u64, All
     Ok(table[940])
 }
 
-/// Returns the least and the greatest pixel.
+/// Returns the minimum and the maximum of the pixels.
 pub fn range_of<T: Pixel>(plane: &PlaneRef<'_, T>) -> (T, T)
     ensures least { IsLeast T.form.value (row_major (table_of plane.now)) result.0 }
     ensures greatest { IsGreatest T.form.value (row_major (table_of plane.now)) result.1 }
@@ -73,7 +73,7 @@ pub fn range_of<T: Pixel>(plane: &PlaneRef<'_, T>) -> (T, T)
     (minimum(plane), maximum(plane))
 }
 
-/// Returns the mean of a plane, rounded down.
+/// Returns the mean of the pixels of a plane, rounded down.
 pub fn brightness<T: Pixel>(plane: &PlaneRef<'_, T>) -> u128
     ensures { let pixels = row_major (table_of plane.now) in
         result ≡ sum_of_values T.form.value pixels / length pixels }
@@ -82,7 +82,7 @@ pub fn brightness<T: Pixel>(plane: &PlaneRef<'_, T>) -> u128
     parts.sum / parts.count as u128
 }
 
-/// Returns the sums that SSIM needs of a block of two planes, where the block lies inside both.
+/// Returns the sums that SSIM requires for a block of two planes. The block lies inside both planes.
 pub fn sums_of_block<T: Pixel>(
     a: &PlaneRef<'_, T>,
     b: &PlaneRef<'_, T>,

@@ -1,4 +1,4 @@
-//! Pictures turned: what callers write, and what is left.
+//! Rotated and mirrored pictures: calls, and the results that their contracts promise.
 ghost use Rattle.std.specs.Prelude.{◌≡◌, length, map, reverse, Err, OnErr, OnOk};
 ghost use Rattle.v_frame.specs.Prelude.{height_of, strided_rows, table_of, tables_of, width_of, ChromaSubsampling};
 ghost use Rattle.v_frame.specs.Prelude.{KeepsBorder, KeepsBorders, KeepsRest, RowsFit};
@@ -11,7 +11,7 @@ use v_frame::plane::{Plane, PlaneRef, RowsRef};
 use v_frame_turn::laws::{quarter_turns_add_up, shown_tables_have_sizes};
 use v_frame_turn::{Turn, TurnError, frames, rotate_90, rotate_270, rows};
 
-/// Shows a video that was taken with the camera on its side upright.
+/// Rotates a video that was recorded with the camera on its side, so that it is upright.
 pub fn show_upright<T: Pixel>(source: &PlaneRef<'_, T>, target: &mut Plane<T>)
     requires wide { source.now.geometry.height ≡ target.old.geometry.width }
     requires high { source.now.geometry.width ≡ target.old.geometry.height }
@@ -21,7 +21,8 @@ pub fn show_upright<T: Pixel>(source: &PlaneRef<'_, T>, target: &mut Plane<T>)
     rotate_90(source, target);
 }
 
-/// Turns a picture by 270 degrees into one plane and by 90 from there into another: it is what it was.
+/// Rotates a picture by 270 degrees into one plane, and from there by 90 degrees into another plane. The second plane then
+/// equals the picture.
 pub fn turn_there_and_back<T: Pixel>(
     source: &PlaneRef<'_, T>,
     between: &mut Plane<T>,
@@ -40,7 +41,7 @@ pub fn turn_there_and_back<T: Pixel>(
     rotate_90(&between.as_plane_ref(), target);
 }
 
-/// Mirrors the picture of a camera that points at the one who holds it, as a mirror would show it.
+/// Mirrors the picture of a camera that faces its user, so that it looks like a mirror image.
 pub fn mirror<T: Pixel>(frame: &mut Frame<T>)
     ensures shown { tables_of frame.new ≡ turned_tables (map reverse) (tables_of frame.old) }
     ensures borders { KeepsBorders frame.old frame.new }
@@ -48,7 +49,7 @@ pub fn mirror<T: Pixel>(frame: &mut Frame<T>)
     frames::flip_horizontal_in_place(frame);
 }
 
-/// Turns a frame by 90 degrees. One of 4:2:2 is refused, whatever the target is.
+/// Rotates a frame by 90 degrees. A 4:2:2 frame is rejected for every target.
 pub fn turn_frame_right<T: Pixel>(source: &Frame<T>, target: &mut Frame<T>) -> Result<(), TurnError>
     ensures shown { OnOk result (tables_of target.new
         ≡ turned_tables rotated_90 (tables_of source.now)) }
@@ -60,7 +61,7 @@ pub fn turn_frame_right<T: Pixel>(source: &Frame<T>, target: &mut Frame<T>) -> R
     frames::turn_frame(source, target, Turn::Rotate90)
 }
 
-/// Writes a picture that is stored from the bottom up, as in a BMP file, from the top down.
+/// Writes a picture that is stored with its last row first, as in a BMP file, with its first row first.
 pub fn store_top_down<T: Pixel>(
     bottom_up: &RowsRef<'_, T>,
     buffer: &mut [T],

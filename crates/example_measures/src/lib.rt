@@ -1,4 +1,4 @@
-//! What users ask of two encodes: how good each is, and which is the better one.
+//! Questions about two encodes of a video: the quality of each one, and which one is better.
 #![tactic(auto)]
 
 ghost use Rattle.std.specs.Prelude.{◌≡◌, ◌↔◌, ◌≤◌, IfSome, IsSome, IsTrue};
@@ -14,8 +14,8 @@ use v_frame_measures::{
     peak_ratio, ssim,
 };
 
-/// Returns the structural similarity of the luma of a picture of 8 bits and an encode of it. `None` exactly where a
-/// size differs or is below 8.
+/// Returns the structural similarity (SSIM) of an 8-bit luma plane and its encode. Returns `None` if and only if the sizes
+/// differ or a side is below 8 pixels.
 pub fn luma_similarity(source: &PlaneRef<'_, u8>, encode: &PlaneRef<'_, u8>) -> Option<f64>
     ensures some { IsSome result ↔ ((source.now.geometry.width ≡ encode.now.geometry.width)
         × (source.now.geometry.height ≡ encode.now.geometry.height)
@@ -29,7 +29,7 @@ pub fn luma_similarity(source: &PlaneRef<'_, u8>, encode: &PlaneRef<'_, u8>) -> 
     ssim(source, encode, 8)
 }
 
-/// Returns whether the first of two encodes of a plane has less error than the second.
+/// Returns whether the first of two encodes of a plane has a smaller squared error than the second.
 pub fn first_is_nearer(
     source: &PlaneRef<'_, u8>,
     first: &PlaneRef<'_, u8>,
@@ -45,8 +45,8 @@ pub fn first_is_nearer(
     mean_squared_error(source, first) < mean_squared_error(source, second)
 }
 
-/// Returns the ratio of the peak to the error of a frame of 10 bits and an encode of it, over all planes. `None`
-/// exactly where the planes differ in size.
+/// Returns the peak ratio, whose decibels are the PSNR, of a 10-bit frame and its encode, over all planes. Returns `None` if
+/// and only if the sizes of the planes differ.
 pub fn ratio_of_frame(source: &Frame<u16>, encode: &Frame<u16>) -> Option<f64>
     ensures some { IsSome result ↔ HaveOneSize (tables_of source.now) (tables_of encode.now) }
     ensures value { IfSome result (λ ratio. ratio ≡ div binary64 (double 1046529)
@@ -58,7 +58,7 @@ pub fn ratio_of_frame(source: &Frame<u16>, encode: &Frame<u16>) -> Option<f64>
     Some(peak_ratio(frame_mean_squared_error(source, encode).all, 10))
 }
 
-/// Adds the structural similarity of two frames to a mean, where they have one. Returns whether they had.
+/// Adds the structural similarity of two frames to `mean`, if the frames have one. Returns whether they have one.
 pub fn add_similarity(mean: &mut Mean, source: &Frame<u8>, encode: &Frame<u8>) -> bool
     requires { HaveOneSize (tables_of source.now) (tables_of encode.now) }
     ensures had { IsTrue result ↔ HaveWindows (tables_of source.now) }

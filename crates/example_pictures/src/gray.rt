@@ -1,4 +1,4 @@
-//! The luma of a frame as a gray picture.
+//! The luma of a frame as a gray PNG picture.
 ghost use Rattle.std.specs.Prelude.{IfOk};
 ghost use Rattle.v_frame.specs.Prelude.{tables_of};
 ghost use Rattle.v_frame_png.specs.Prelude.{HasFile};
@@ -8,7 +8,8 @@ use std::io;
 use v_frame::frame::Frame;
 use v_frame_png::{Header, PngError, write_png};
 
-/// Writes the luma of a frame of 8 bits, and returns the writer. The header says the size, and [`Samples::Gray8`].
+/// Writes the luma of an 8-bit frame as a gray PNG picture, and returns the writer. The header has the size of the luma plane
+/// and [`Samples::Gray8`].
 ///
 /// [`Samples::Gray8`]: v_frame_png::Samples::Gray8
 pub fn write_luma<W: io::Write + Drop>(

@@ -1,4 +1,4 @@
-//! Callers that write pictures as PNG, with exact contracts.
+//! Examples that write pictures as PNG, with exact contracts.
 #![tactic(auto)]
 
 pub mod gray;

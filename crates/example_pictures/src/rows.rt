@@ -1,4 +1,4 @@
-//! The colors of a frame as a picture.
+//! The colors of a frame as a PNG picture.
 ghost use Rattle.std.specs.Prelude.{◌≡◌, [], ◌∷◌, IfOk};
 ghost use Rattle.v_frame.specs.Prelude.{height_of, width_of};
 ghost use Rattle.v_frame_png.specs.Prelude.{HasFile};
@@ -10,8 +10,8 @@ use v_frame::plane::{RowsRef, rows_fit};
 use v_frame_png::{Header, PngError, write_png};
 use v_frame_rgb::{Rgb, RgbMatrix, rows};
 
-/// Writes the colors of luma and chroma of one size, and returns the writer. The header says the size, and
-/// [`Samples::Rgb8`](v_frame_png::Samples::Rgb8).
+/// Writes the colors of luma and chroma of the same size as a PNG picture, and returns the writer. The header has the size of
+/// the planes and [`Samples::Rgb8`](v_frame_png::Samples::Rgb8).
 pub fn write_colors<W: io::Write + Drop>(
     alloc: Global,
     out: W,

@@ -1,4 +1,4 @@
--- Bit depths: their largest values, and a change of depth in 16 bits.
+-- Bit depths: their largest values, and conversions between depths in 16 bits.
 use Rattle.std.proofs.Common.{ℕ, zero, suc, ◌≡◌, ◌+◌, ◌-◌, ◌*◌, ◌/◌, ◌%◌, ◌^◌, ◌<◌, ◌≤◌, min, inl, inr, refl, sym}
 use Rattle.std.proofs.Common.{◌∙◌, ap, subst, arith, nat_le, true, false}
 use Rattle.std.proofs.Math.Nat.{min-eq_left, min-eq_right, mod-le, mod-eq_of_lt, one-le-pow, pow-le-pow_right, div-one}
@@ -22,7 +22,7 @@ module _ (P : ℕ → Type 0) (p8 : P 8) (p9 : P 9) (p10 : P 10) (p11 : P 11) (p
   from_eight (suc (suc (suc (suc (suc (suc (suc (suc zero)))))))) h = p16
   from_eight k h = absurd (omega arith)
 
-  -- what holds at each of the nine depths
+  -- A property that holds at each of the nine depths from 8 to 16.
   pub each_depth : (depth : ℕ) → 8 ≤ depth → depth ≤ 16 → P depth
   each_depth depth low high =
       let e : 8 + (depth - 8) ≡ depth = omega arith in
@@ -35,7 +35,7 @@ largest_by_shift =
 pub pow_within : (depth : ℕ) → depth ≤ 16 → 2 ^ depth ≤ 65536
 pow_within depth high = let two : 0 < 2 = omega arith in pow-le-pow_right two high
 
--- a value that fits needs no rounding
+-- A value that fits the depth is unchanged by the rounding.
 fits_above : (y P : ℕ) → y < P → P ≤ 65536 → min (min (y % 65536 + 1 / 2) 65535 / 1) (P - 1) ≡ y
 fits_above y P below within =
     let whole : y % 65536 ≡ y = mod-eq_of_lt (omega arith) in
@@ -44,7 +44,7 @@ fits_above y P below within =
     let last : min y (P - 1) ≡ y = min-eq_left (omega arith) in
     rw (whole, none, first, div-one y, last)
 
--- a sum is cut off only where its quotient would be cut off
+-- The sum saturates only if its quotient is clipped in any case.
 module _ (v half D lt lf : ℕ) (some : 0 < D) (whole : lf + 1 ≡ (lt + 1) * D) (within : lf ≤ 65535) where
   below_all : lt * D ≤ lf
   below_all = let e : (lt + 1) * D ≡ lt * D + D = omega arith in omega arith
@@ -73,7 +73,7 @@ module _ (v half D lt lf : ℕ) (some : 0 < D) (whole : lf + 1 ≡ (lt + 1) * D)
             ])
       ])
 
--- a value that is shifted up is one of the greater depth
+-- A value that is shifted left fits the greater depth.
 raised_below : (from to value : ℕ) → from ≤ to → min value (largest_value from) * 2 ^ (to - from) < 2 ^ to
 raised_below from to value greater =
     let two : 0 < 2 = omega arith in
@@ -84,7 +84,7 @@ raised_below from to value greater =
     let up : 1 ≤ 2 ^ (to - from) = one-le-pow (to - from) 2 two in
     omega (arith, mul-le-mul_right (2 ^ (to - from)) low, parts, up)
 
--- so no bit of it is lost
+-- The shift loses no bit.
 pub raised_depth : (from to value : ℕ) → from ≤ to → to ≤ 16
     → (min value (largest_value from) * 2 ^ (to - from) % 65536 ≡ at_depth from to value)
     × (at_depth from to value < 2 ^ to)
@@ -93,7 +93,7 @@ raised_depth from to value greater high =
     let below = raised_below from to value greater in
     rw test (mod-eq_of_lt (omega (arith, below, pow_within to high)), below)
 
--- what the shifts of a change of depth give
+-- The two shifts of a conversion compute the value at the other depth.
 pub changed_depth : (from to value : ℕ) → from ≤ 16 → to ≤ 16
     → min (min (min value (largest_value from) * 2 ^ (to - from) % 65536 + 2 ^ (from - to) / 2) 65535 / 2 ^ (from - to))
     (largest_value to) ≡ at_depth from to value
@@ -124,20 +124,20 @@ changed_depth from to value from_high to_high =
           rw (test, none) (fits_above (min value lf * 2 ^ (to - from)) (2 ^ to) below (pow_within to to_high))
     ]
 
--- so many bytes have eight times as many bits
+-- A number of bytes has eight times as many bits.
 eight_bits : (bytes : ℕ) → 2 ^ (8 * bytes) ≡ 256 ^ bytes
 eight_bits zero = refl
 eight_bits (suc bytes) =
     let e : 8 * suc bytes ≡ 8 + 8 * bytes = omega arith in
     rw (e, pow-add 2 8 (8 * bytes), eight_bits bytes, pow-suc 256 bytes) (omega arith)
 
--- a depth that fits pixels has no more values than they have
+-- If a depth fits a type of pixels, its values fit the type.
 pub depth_within : (bytes depth : ℕ) → depth ≤ 8 * bytes → 2 ^ depth ≤ 256 ^ bytes
 depth_within bytes depth high =
     let two : 0 < 2 = omega arith in
     rw (← eight_bits bytes) (pow-le-pow_right two high)
 
--- the middle of a depth is one of its values
+-- The neutral value of a depth fits the type of the pixels.
 pub middle_within : (bytes depth : ℕ) → 0 < depth → depth ≤ 8 * bytes → 1 * 2 ^ (depth - 1) % 65536 < 256 ^ bytes
 middle_within bytes depth some high =
     let two : 0 < 2 = omega arith in

@@ -1,4 +1,4 @@
--- Rows of half the size, pixel by pixel.
+-- Rows of half the width, pixel by pixel.
 use Rattle.std.proofs.Common.{ℕ, zero, suc, ◌≡◌, ◌+◌, ◌-◌, ◌*◌, ◌/◌, ◌<◌, ◌≤◌, List, ◌∷◌, length, take, drop, min, Some}
 use Rattle.std.proofs.Common.{◌++◌, inl, inr, slice_get, refl, sym, ◌∙◌, ap, arith, length-append, length-drop}
 use Rattle.std.proofs.lemmas.Bool.{cases_lt}
@@ -12,7 +12,7 @@ use Rattle.v_frame_convert.specs.ScaledRows.{mean_in_two_rows}
 use Rattle.v_frame_convert.specs.declared.scale.Scale.TheVariants.{Half}
 
 module _ {T : Type 0} (form : PixelForm T) where
-  -- the value of an item that may be there
+  -- The value of the item at an index, if the list has it.
   abbrev value_of_item : List T → ℕ → ℕ
   value_of_item row x = option_map_or form.value (slice_get row x) 0
 
@@ -35,7 +35,7 @@ module _ {T : Type 0} (form : PixelForm T) where
       rw (s, e, f) (pixel_by_items n x top bottom (omega arith) (omega (arith, long)) (omega (arith, long1)))
   pixel_by_items n x top bottom h long long1 = absurd (omega (arith, h, long, long1))
 
-  -- the pixels of the even parts
+  -- The pixels that are computed from pairs of pixels.
   pub pixel_of_halves : (n x : ℕ) (top bottom : List T) → x < n → 2 * n ≤ length top → length bottom ≡ length top
       → slice_get (halved form (take (2 * n) top) (take (2 * n) bottom)) x
       ≡ Some (form.pixel_of (mean_in_two_rows form Half top bottom x))
@@ -49,7 +49,7 @@ module _ {T : Type 0} (form : PixelForm T) where
       rw (a, b, c, d) (ap (λ s. (s + 2) / 4) (omega arith)) in
       pixel_by_items n x top bottom h long (omega arith) ∙ ap (λ m. Some (form.pixel_of m)) (sym mean)
 
-  -- the last pixel of an odd width
+  -- The last pixel of an odd width.
   pub last_mean : (n : ℕ) (top bottom : List T) (p q : T) → length top ≡ 2 * n + 1 → length bottom ≡ length top
       → slice_get top (2 * n) ≡ Some p → slice_get bottom (2 * n) ≡ Some q
       → mean_in_two_rows form Half top bottom n ≡ (form.value p + form.value q + 1) / 2
@@ -60,7 +60,7 @@ module _ {T : Type 0} (form : PixelForm T) where
       let past1 : min (2 * n + 1) (length bottom - 1) ≡ 2 * n = omega arith in
       rw (here, past, here1, past1, is, under) (omega arith)
 
-  -- the even parts, and what is written after them
+  -- The pixels from pairs, and the pixel that is written after them.
   pub with_last : (n : ℕ) (top bottom front rest : List T) → length front ≡ n
       → front ≡ halved form (take (2 * n) top) (take (2 * n) bottom) → 2 * n ≤ length top → length bottom ≡ length top
       → ((x : ℕ) → x < length rest
@@ -80,7 +80,7 @@ module _ {T : Type 0} (form : PixelForm T) where
             ∙ ap (λ k. Some (form.pixel_of (mean_in_two_rows form Half top bottom k))) back
       ]
 
-  -- past so many pairs of a row the means are those of the rest
+  -- After `m` pairs, the means of a row are the means of the rest of the row.
   nearest_past : (m k : ℕ) (row : List T) → m < length row
       → nearest_value form (drop m row) k ≡ nearest_value form row (m + k)
   nearest_past m k row some =

@@ -1,4 +1,4 @@
--- Loops that write the items of a list, one after the other, or the rows of a table in a buffer.
+-- Loops that write the items of a list, or the rows of a table in a buffer, one after the other.
 use Rattle.std.proofs.Common.{ℕ, suc, ◌≡◌, ◌+◌, ◌*◌, ◌<◌, List, [], ◌∷◌, length, map, Some, slice_get}
 use Rattle.std.proofs.Common.{Option, None, option_and_then, refl, ◌∙◌, ap, arith}
 use Rattle.std.proofs.Math.ListN.{set}
@@ -11,7 +11,7 @@ use Rattle.v_frame_convert.specs.Rows.{GivesItems}
 use borrow.Author.Count.{below_more}
 use borrow.Rule.Slice.PartMut.{put_mid}
 
--- each item in front of an index is one that was to be made there
+-- Each item below index `i` satisfies the relation `made`.
 pub record MadeBelow {Y : Type 0} (made : ℕ → Y → Type 0) (now : List Y) (i : ℕ) : Type 0 where
   pub each : (k : ℕ) → k < i → (q : Y) × made k q × (slice_get now k ≡ Some q)
 
@@ -28,11 +28,11 @@ module _ {Y : Type 0} (made : ℕ → Y → Type 0) where
         (q, becomes, set_is_read now i q within);
   }
 
--- what is given at the item of the same index in a list
+-- `gives p q` holds for the item `p` of `source` at index `k`.
 abbrev pub GivenAt : {X Y : Type 0} → (X → Y → Type 0) → List X → ℕ → Y → Type 0
 GivenAt {X} gives source k q = (p : X) → slice_get source k ≡ Some p → gives p q
 
--- each row in front of one is one that was to be made there, and all else is as it was
+-- Each row below row `y` satisfies the relation `made`, and everything else in the buffer is unchanged.
 pub record RowsMadeBelow {T : Type 0} (made : ℕ → List T → Type 0) (width height stride : ℕ) (old now : List T)
     (y : ℕ) : Type 0 where
   pub rows : MadeBelow made (strided_rows width height stride now) y
@@ -56,7 +56,7 @@ module _ {T : Type 0} (made : ℕ → List T → Type 0) (width height stride : 
     rest = rest_kept width height stride old now _ so_far.rest (rest_put width height stride now row y fit high long);
   }
 
--- the row that has a pixel
+-- The row that contains a pixel of a table.
 found_row : {T : Type 0} (x : ℕ) (p : T) (o : Option (List T)) → option_and_then (λ row. slice_get row x) o ≡ Some p
     → (row : List T) × (o ≡ Some row) × (slice_get row x ≡ Some p)
 found_row x p None h = absurd (let no : None ≡ Some p = h in cc)
@@ -71,7 +71,7 @@ module _ {X Y : Type 0} (gives : X → Y → Type 0) where
     at = λ k p is. let q = so_far.each k (within k p is) in (q.0, q.1 p is, q.2);
   }
 
-  -- where the results are those of a function, the list is the function over the other
+  -- If the results are the results of a function, the target is `map` of this function over the source.
   pub gives_whole : (g : X → Y) → ((p : X) (q : Y) → gives p q → q ≡ g p) → (source : List X) (target : List Y)
       → GivesItems gives source target → target ≡ map g source
   gives_whole g is [] [] given = refl

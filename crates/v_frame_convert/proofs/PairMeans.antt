@@ -1,4 +1,4 @@
--- Means of pairs of neighbours: in lanes of two bytes, of pixels of one byte, and in blocks.
+-- Means of pairs of adjacent pixels: in 16-bit lanes, for one-byte pixels, and in blocks.
 use Rattle.std.proofs.Common.{ℕ, zero, suc, ◌≡◌, ◌+◌, ◌*◌, ◌/◌, ◌%◌, ◌<◌, ◌≤◌, List, [], ◌∷◌, length, take, drop}
 use Rattle.std.proofs.Common.{bit_and, refl, sym, ◌∙◌, ap, arith, map, length-take-le}
 use Rattle.std.specs.Simd.Lanes.{Each1, number_l, digits_l}
@@ -10,7 +10,7 @@ use borrow.Rule.Slice.PartMut.{put_mid}
 use Rattle.v_frame.specs.Prelude.{PixelForm, halved, one_byte, rounded_mean}
 use Rattle.v_frame_raster.proofs.HalfRows.{halved-append, HalvedUpTo}
 
--- what a lane of two bytes becomes
+-- The mean of the two bytes in a 16-bit lane.
 abbrev pub lane_mean : ℕ → ℕ
 lane_mean lane = ((bit_and lane 255 + lane / 256) % 65536 + 1) % 65536 / 2
 
@@ -30,7 +30,7 @@ means_in_lanes (suc n) (low ∷ high ∷ bytes) long small =
 means_in_lanes n bytes long small = absurd (omega (arith, long))
 
 module _ {T : Type 0} (form : PixelForm T) where
-  -- the pixels of the means of values are the means of the pixels
+  -- The means of the values of pixels are the values of the means of the pixels.
   pub means_of_values : (n : ℕ) (xs : List T) → length xs ≡ 2 * n
       → map form.pixel_of (halved one_byte (map form.value xs) (map form.value xs)) ≡ halved form xs xs
   means_of_values zero [] long = refl
@@ -39,7 +39,7 @@ module _ {T : Type 0} (form : PixelForm T) where
       ap (λ rest. form.pixel_of mean ∷ rest) (means_of_values n xs (omega (arith, long)))
   means_of_values n xs long = absurd (omega (arith, long))
 
-  -- one more block of so many means
+  -- The loop step: one more block of `n` means.
   pub more_means : (n k : ℕ) (source row part : List T) → n * k + n ≤ length row → length source ≡ 2 * length row
       → length part ≡ n
       → part ≡ halved form (take (2 * n) (drop (2 * (n * k)) source)) (take (2 * n) (drop (2 * (n * k)) source))

@@ -1,4 +1,5 @@
--- Values of one range in the other: quotients in two steps, and by a number that is one below a power of two.
+-- Values converted between the limited range and the full range. Quotients are computed in two steps, or by a divisor
+-- that is a power of two minus 1.
 use Rattle.std.proofs.Common.{ℕ, ◌≡◌, ◌+◌, ◌-◌, ◌*◌, ◌/◌, ◌%◌, ◌^◌, ◌<◌, ◌≤◌, inl, inr, sym, ◌∙◌, ap, arith}
 use Rattle.std.proofs.Math.Nat.{div-div-eq-div-mul, mul_comm, div-eq_of_lt, div-lt_iff_lt-mul, mod-lt}
 use Rattle.std.proofs.lemmas.Bool.{cases_lt}
@@ -7,11 +8,11 @@ use Rattle.v_frame_convert.specs.Depth.{largest_value}
 use Rattle.v_frame_convert.specs.Range.{unit_of}
 use Rattle.v_frame_convert.proofs.Depths.{each_depth}
 
--- a quotient in two steps
+-- A division by a product equals two divisions.
 pub in_two_steps : (n unit factor : ℕ) → n / unit / factor ≡ n / (factor * unit)
 in_two_steps n unit factor = div-div-eq-div-mul n unit factor ∙ ap (λ k. n / k) (mul_comm unit factor)
 
--- the base is one above the divisor
+-- The quotient by `m`, computed with divisions by `m + 1`.
 pub by_one_below : (m n : ℕ) → 0 < m → n < (m + 1) * m → (n + n / (m + 1) + 1) / (m + 1) ≡ n / m
 by_one_below m n some digits =
     let q = n / m in
@@ -37,7 +38,7 @@ by_one_below m n some digits =
           rw (upper, sum) (div-mul-add q (m + 1) (r + 1) (omega arith))
     ]
 
--- a value below the range has the quotient 0, whether the half is added before the difference or after
+-- The quotient of a value below the range is 0, whether the half is added before or after the subtraction.
 module _ (x unit largest : ℕ) (some : 0 < unit) (room : 224 * unit ≤ largest) where
   abbrev below : ℕ
   below = 128 * unit * (largest - 224 * unit)
@@ -59,11 +60,11 @@ module _ (x unit largest : ℕ) (some : 0 < unit) (room : 224 * unit ≤ largest
         | inr not_low ↦ ap (λ n. n / (224 * unit)) (omega (arith, distance))
       ])
 
-  -- the offset of chroma in the limited range
+  -- The offset of chroma in the conversion to the full range.
   pub chroma_offset : x + 128 * unit * largest - 128 * unit * (224 * unit) ≡ x + below
   chroma_offset = omega (arith, distance)
 
--- values of the limited range are below the largest one
+-- Values of the limited range are below the largest value.
 pub luma_digits : (depth : ℕ) → 8 ≤ depth → depth ≤ 16 → (value : ℕ) → value ≤ largest_value depth
     → value * (219 * unit_of depth) + largest_value depth / 2 < 2 ^ depth * largest_value depth
 luma_digits =

@@ -1,4 +1,4 @@
--- Each item of a list so many times, one after the other.
+-- Each item of a list, repeated several times.
 use Rattle.std.proofs.Common.{ℕ, zero, suc, ◌≡◌, ◌+◌, ◌-◌, ◌*◌, ◌/◌, ◌<◌, ◌≤◌, inl, inr, List, [], ◌∷◌, ◌++◌, length}
 use Rattle.std.proofs.Common.{replicate, take, Some, slice_get, refl, sym, ◌∙◌, ap, arith, length-append}
 use Rattle.std.proofs.Math.Nat.{add-div_left, div-eq_of_lt}
@@ -36,7 +36,7 @@ module _ {X : Type 0} where
             ∙ slice_get-repeated ratio xs (k - ratio) some ∙ sym (ap (slice_get (x ∷ xs)) next)
       ]
 
-  -- items that are there twice each, and after them one that is there once, or none
+  -- Items that are repeated twice, followed by one item or none.
   pub twice_and_last : (source front rest : List X) (n : ℕ) → n ≤ length source → length front ≡ 2 * n
       → ((k : ℕ) → k < length front → slice_get front k ≡ slice_get (take n source) (k / 2)) → length rest < 2
       → ((k : ℕ) → k < length rest → slice_get rest k ≡ slice_get source n) → (k : ℕ) → k < length (front ++ rest)

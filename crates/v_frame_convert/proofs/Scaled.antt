@@ -1,4 +1,4 @@
--- Tables whose pixels are there so many times across and down.
+-- Tables whose pixels are repeated across and down.
 use Rattle.std.proofs.Common.{ℕ, ◌≡◌, ◌+◌, ◌-◌, ◌*◌, ◌/◌, ◌%◌, ◌<◌, ◌≤◌, List, length, map, take, Option, Some, None}
 use Rattle.std.proofs.Common.{slice_get, option_map, option_and_then, refl, sym, ◌∙◌, ap, arith, length-take-le}
 use Rattle.std.proofs.Math.Nat.{mod-lt, div-lt_iff_lt-mul}
@@ -10,7 +10,7 @@ use Rattle.v_frame_raster.proofs.tables.Lists.{same_by_slice_get, slice_get-take
 use Rattle.v_frame_convert.specs.Chroma.{repeated, upscaled, IsSubsampledSize}
 use Rattle.v_frame_convert.proofs.Repeated.{length-repeated, slice_get-repeated}
 
--- so many blocks are enough
+-- The blocks cover the whole size.
 pub blocks_cover : {size ratio items : ℕ} → IsSubsampledSize size ratio items → size ≤ items * ratio
 blocks_cover {size} {ratio} {items} counted =
     let some : 0 < ratio = counted.divides in
@@ -19,13 +19,13 @@ blocks_cover {size} {ratio} {items} counted =
     let rest : n % ratio < ratio = mod-lt n some in
     rw (counted.count) (omega (arith, parts, rest))
 
--- and each column, or row, is in one of them
+-- Each column (or row) lies in one of the blocks.
 pub block_within : {size ratio items : ℕ} → IsSubsampledSize size ratio items → {x : ℕ} → x < size → x / ratio < items
 block_within {size} {ratio} {items} counted {x} within =
     (div-lt_iff_lt-mul counted.divides).1 (omega (arith, blocks_cover counted))
 
 module _ {T : Type 0} (ratio_x width : ℕ) where
-  -- the row of so many columns that has each pixel so many times
+  -- A row of `width` pixels in which each source pixel is repeated.
   abbrev pub widened : List T → List T
   widened row = take width (repeated ratio_x row)
 

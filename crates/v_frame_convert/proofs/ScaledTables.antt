@@ -1,4 +1,4 @@
--- Rows and tables made by a function of the column and the row, and means of one row or of two.
+-- Rows and tables computed from the column and the row, and means of one row or two rows.
 use Rattle.std.proofs.Common.{ℕ, zero, suc, ◌≡◌, ◌≢◌, ◌+◌, ◌-◌, ◌*◌, ◌/◌, ◌<◌, List, [], ◌∷◌, ◌++◌, length, map, min}
 use Rattle.std.proofs.Common.{Some, slice_get, sum, refl, sym, ◌∙◌, ap, subst, arith, length-append, append-nil}
 use Rattle.std.proofs.Math.Nat.{div-div-eq-div-mul, min-eq_left}
@@ -26,14 +26,14 @@ module _ {X : Type 0} (f : ℕ → X) where
       let e : 0 + k ≡ k = omega arith in
       get_from 0 n k h ∙ ap (λ i. Some (f i)) e
 
-  -- a list whose items are those of a function
+  -- A list whose items are the results of a function of the index.
   pub is_from_function : (n : ℕ) (xs : List X) → length xs ≡ n → ((k : ℕ) → k < n → slice_get xs k ≡ Some (f k))
       → xs ≡ map f (range_with_len 0 n)
   is_from_function n xs count each =
       same_by_slice_get xs (map f (range_with_len 0 n)) (count ∙ sym (length-map-range_with_len f 0 n))
       (λ k h. each k (omega arith) ∙ sym (slice_get-from_function n k (omega arith)))
 
--- the mean of values that are all there twice
+-- The mean of a list equals the mean of the list appended to itself.
 mean_of_twice : (values : List ℕ) → mean_of (values ++ values) ≡ mean_of values
 mean_of_twice values =
     let n = length values in
@@ -45,7 +45,7 @@ mean_of_twice values =
     sym (div-div-eq-div-mul (s + s + n) 2 n) ∙ ap (λ k. k / n) inner)
 
 module _ {S : Type 0} (form : PixelForm S) (columns : List ℕ) (rows : Table S) where
-  -- the values in a row that is there
+  -- The values in a row that exists.
   row_values : (y : ℕ) (row : List S) → slice_get rows (min y (length rows - 1)) ≡ Some row
       → values_of_row form columns rows y ≡ values_at form columns row
   row_values y row is = rw is refl

@@ -1,4 +1,4 @@
--- The words that callers' clauses cite, re-exported from one place.
+-- The definitions that contracts of other crates use, re-exported from one module.
 pub use Rattle.v_frame_convert.specs.Chroma.{repeated, upscaled, IsSubsampledSize}
 pub use Rattle.v_frame_convert.specs.Convert.{converted, GivesPixels}
 pub use Rattle.v_frame_convert.specs.Depth.{at_depth, largest_value, pixel_at_depth, pixel_of_depth}

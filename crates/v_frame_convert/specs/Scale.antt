@@ -1,5 +1,5 @@
--- Tables in another size: each pixel is that of the block in which it lies, or the mean of those
--- that lie in it.
+-- Tables at another size. Each pixel is the mean of the block of pixels that it covers, or the
+-- pixel in whose block it lies.
 use Rattle.std.specs.Prelude.{ℕ, ◌≡◌, ◌+◌, ◌-◌, ◌*◌, ◌/◌, List, [], ◌∷◌, length, map, min, sum}
 use Rattle.std.specs.Prelude.{flat_map, slice_get}
 use Rattle.std.specs.List.{range_with_len}
@@ -10,7 +10,7 @@ use Rattle.v_frame_convert.specs.declared.scale.Scale.{Scale}
 use Rattle.v_frame_convert.specs.declared.scale.Scale.TheVariants.{Quarter, Half, Same, Double}
 use Rattle.v_frame_convert.specs.declared.scale.Scale.TheVariants.{Quadruple}
 
--- which columns, or rows, of the source are at column, or row, x
+-- The columns (or rows) of the source that column (or row) `x` of the target covers.
 abbrev pub places : Scale → ℕ → List ℕ
 places Quarter x = 4 * x ∷ (4 * x + 1) ∷ (4 * x + 2) ∷ (4 * x + 3) ∷ []
 places Half x = 2 * x ∷ (2 * x + 1) ∷ []
@@ -18,7 +18,8 @@ places Same x = x ∷ []
 places Double x = x / 2 ∷ []
 places Quadruple x = x / 4 ∷ []
 
--- the sizes of the source and of the target belong together: blocks that are begun count
+-- The sizes of the source and of the target correspond. The smaller size is the larger size divided
+-- by the ratio, rounded up.
 abbrev pub SizesFit : Scale → ℕ → ℕ → Type 0
 SizesFit Quarter source target = target ≡ (source + 3) / 4
 SizesFit Half source target = target ≡ (source + 1) / 2
@@ -26,16 +27,17 @@ SizesFit Same source target = target ≡ source
 SizesFit Double source target = source ≡ (target + 1) / 2
 SizesFit Quadruple source target = source ≡ (target + 3) / 4
 
--- the mean of values, rounded to the nearest number, and upwards at a half
+-- The mean of values, rounded to the nearest integer, halves up.
 abbrev pub mean_of : List ℕ → ℕ
 mean_of values = rounded_quotient (sum values) (length values)
 
 module _ {T : Type 0} (form : PixelForm T) where
-  -- the value of the pixel of column x, or past the last column of the last one
+  -- The value of the pixel at column `x`, or of the last pixel if the row ends before that column.
   abbrev pub nearest_value : List T → ℕ → ℕ
   nearest_value row x = option_map_or form.value (slice_get row (min x (length row - 1))) 0
 
-  -- the values of some columns of a row, and of row y, or past the last row of the last one
+  -- The values of some columns of a row, and below it the values of these columns in row `y`, or in
+  -- the last row if the table ends before row `y`.
   abbrev pub values_at : List ℕ → List T → List ℕ
   values_at columns row = map (nearest_value row) columns
 
@@ -43,16 +45,16 @@ module _ {T : Type 0} (form : PixelForm T) where
   values_of_row columns rows y =
       option_map_or (values_at columns) (slice_get rows (min y (length rows - 1))) []
 
-  -- the mean of the values of some columns in some rows
+  -- The mean of the values of some columns in some rows.
   abbrev pub block_mean : List ℕ → List ℕ → Table T → ℕ
   block_mean columns lines rows = mean_of (flat_map (values_of_row columns rows) lines)
 
--- the table of width by height pixels that has at column x of row y what a function gives
+-- The table of `width` by `height` pixels whose pixel at column `x` of row `y` is `at x y`.
 abbrev pub table_by : {T : Type 0} → ℕ → ℕ → (ℕ → ℕ → T) → Table T
 table_by width height at =
     map (λ y. map (λ x. at x y) (range_with_len 0 width)) (range_with_len 0 height)
 
--- the table in another size, whose values become pixels by a function
+-- The table at another size, with each mean turned into a pixel by `pixel`.
 abbrev pub scaled : {S T : Type 0} → PixelForm S → (ℕ → T) → Scale → Scale → ℕ → ℕ → Table S
     → Table T
 scaled form pixel across down width height rows =

@@ -1,4 +1,4 @@
--- Conversions worked out by hand. Each line computes: it is proved by `refl`.
+-- Conversions with results computed by hand. Each line is proved by computation (`refl`).
 use Rattle.std.specs.Prelude.{ℕ, ◌≡◌, [], ◌∷◌, refl}
 use Rattle.v_frame.specs.Prelude.{Table, one_byte, two_bytes, Yuv420, Yuv422, Yuv411, Yuv444}
 use Rattle.v_frame.specs.Prelude.{Monochrome}
@@ -18,14 +18,14 @@ white_up = refl
 up_to_all_bits : at_depth 10 16 1023 ≡ 65472
 up_to_all_bits = refl
 
--- 505 is 126.25 times 4, 506 is 126.5 times 4
+-- 505 is 126.25 times 4, and 506 is 126.5 times 4.
 down_below_a_half : at_depth 10 8 505 ≡ 126
 down_below_a_half = refl
 
 down_at_a_half : at_depth 10 8 506 ≡ 127
 down_at_a_half = refl
 
--- 1022 is 255.5 times 4, and no value of 8 bits is above 255
+-- 1022 is 255.5 times 4, and no 8-bit value is above 255.
 down_at_the_end : at_depth 10 8 1022 ≡ 255
 down_at_the_end = refl
 
@@ -48,7 +48,7 @@ in_ten_bits = refl
 black : luma_in_full_range 8 16 ≡ 0
 black = refl
 
--- (126 - 16) * 255 / 219 is 128.08
+-- (126 - 16) * 255 / 219 is 128.08.
 gray : luma_in_full_range 8 126 ≡ 128
 gray = refl
 
@@ -61,7 +61,7 @@ above_white = refl
 no_color : chroma_in_full_range 8 128 ≡ 128
 no_color = refl
 
--- (16 - 128) * 255 / 224 + 128 is 0.5, and (240 - 128) * 255 / 224 + 128 is 255.5
+-- (16 - 128) * 255 / 224 + 128 is 0.5, and (240 - 128) * 255 / 224 + 128 is 255.5.
 least_chroma : chroma_in_full_range 8 16 ≡ 1
 least_chroma = refl
 
@@ -74,7 +74,7 @@ below_the_range = refl
 white_back : luma_in_limited_range 8 255 ≡ 235
 white_back = refl
 
--- 16 + 128 * 219 / 255 is 125.93
+-- 16 + 128 * 219 / 255 is 125.93.
 gray_back : luma_in_limited_range 8 128 ≡ 126
 gray_back = refl
 
@@ -84,14 +84,14 @@ no_chroma_back = refl
 most_chroma_back : chroma_in_limited_range 8 255 ≡ 240
 most_chroma_back = refl
 
--- 2 by 1 pixels as 3 by 2
+-- 2 by 1 pixels, enlarged to 3 by 2.
 abbrev two_by_one : Table ℕ
 two_by_one = (7 ∷ 8 ∷ []) ∷ []
 
 repeated_twice : upscaled 2 2 3 2 two_by_one ≡ (7 ∷ 7 ∷ 8 ∷ []) ∷ (7 ∷ 7 ∷ 8 ∷ []) ∷ []
 repeated_twice = refl
 
--- 3 by 3 pixels as 2 by 2: of the last column and the last row there is one
+-- 3 by 3 pixels, halved to 2 by 2. The last column and the last row have no second one.
 abbrev three_rows : Table ℕ
 three_rows = (10 ∷ 20 ∷ 30 ∷ []) ∷ (11 ∷ 23 ∷ 31 ∷ []) ∷ (50 ∷ 51 ∷ 90 ∷ []) ∷ []
 
@@ -102,12 +102,12 @@ half_the_columns : scaled one_byte (λ v. v) Half Same 2 3 three_rows
     ≡ (15 ∷ 30 ∷ []) ∷ (17 ∷ 31 ∷ []) ∷ (51 ∷ 90 ∷ []) ∷ []
 half_the_columns = refl
 
--- (10 + 20 + 30 + 30) / 4 is 22.5
+-- (10 + 20 + 30 + 30) / 4 is 22.5.
 a_quarter_of_the_columns : scaled one_byte (λ v. v) Quarter Same 1 3 three_rows
     ≡ (23 ∷ []) ∷ (24 ∷ []) ∷ (70 ∷ []) ∷ []
 a_quarter_of_the_columns = refl
 
--- columns of 4:1:1 become those of 4:2:0, whose rows are means
+-- Chroma of 4:1:1 converted to 4:2:0: columns are repeated, and rows are halved.
 columns_twice : scaled one_byte (pixel_of_depth two_bytes 8 10) Double Half 5 2 three_rows
     ≡ (44 ∷ 44 ∷ 88 ∷ 88 ∷ 124 ∷ []) ∷ (200 ∷ 200 ∷ 204 ∷ 204 ∷ 360 ∷ []) ∷ []
 columns_twice = refl

@@ -1,11 +1,12 @@
-//! Means of pairs of pixels of one byte, sixteen at a time. Of a loop over them the compiler makes a load for each byte.
+//! Means of pairs of adjacent one-byte pixels, sixteen pairs at a time. The compiler does not vectorize a plain loop over
+//! pairs.
 ghost use Rattle.std.specs.Prelude.{◌≡◌, ◌*◌, ◌%◌, ◌<◌, ◌≤◌, length, map, take};
 ghost use Rattle.v_frame.specs.Prelude.{halved, one_byte};
 
 use std::simd::{u8x16, u8x32, u16x16};
 use v_frame::pixel::Pixel;
 
-/// Returns how many of so many pairs are taken in blocks of sixteen: none where a pixel has two bytes.
+/// Returns the number of the first `pairs` pairs that are processed in blocks of sixteen. It is 0 for pixels of two bytes.
 #[inline(always)]
 pub(crate) fn pairs_in_blocks<T: Pixel>(pairs: usize) -> usize
     ensures within { result ≤ pairs }
@@ -15,7 +16,7 @@ pub(crate) fn pairs_in_blocks<T: Pixel>(pairs: usize) -> usize
     if T::BYTES == 1 { pairs - pairs % 16 } else { 0 }
 }
 
-/// Makes each pixel of a row the mean of a pair of another one.
+/// Sets each pixel of `row` to the mean of a pair of adjacent pixels of `source`, in blocks of sixteen.
 pub(crate) fn halve_blocks<T: Pixel>(source: &[T], row: &mut [T])
     requires byte { 0 < length row.old → T.BYTES ≡ 1 }
     requires whole { length row.old % 16 ≡ 0 }
@@ -28,7 +29,7 @@ pub(crate) fn halve_blocks<T: Pixel>(source: &[T], row: &mut [T])
     }
 }
 
-/// Makes sixteen pixels the means of pairs.
+/// Sets sixteen pixels of `row` to the means of the pairs of 32 pixels of `source`.
 #[inline(always)]
 fn halve_block<T: Pixel>(source: &[T], row: &mut [T])
     requires byte { T.BYTES ≡ 1 }
@@ -42,7 +43,7 @@ fn halve_block<T: Pixel>(source: &[T], row: &mut [T])
     write_pixels(&means, row);
 }
 
-/// Writes the pixels of bytes. A copy of these bytes would test first whether the two overlap.
+/// Writes one-byte pixels with these values. A copy of slices would first check whether they overlap.
 #[inline(always)]
 fn write_pixels<T: Pixel>(bytes: &[u8], row: &mut [T])
     requires byte { T.BYTES ≡ 1 }
@@ -54,7 +55,7 @@ fn write_pixels<T: Pixel>(bytes: &[u8], row: &mut [T])
     }
 }
 
-/// Writes the values of pixels that have one byte.
+/// Writes the values of one-byte pixels.
 #[inline(always)]
 fn write_values<T: Pixel>(row: &[T], bytes: &mut [u8])
     requires byte { T.BYTES ≡ 1 }
@@ -66,7 +67,7 @@ fn write_values<T: Pixel>(row: &[T], bytes: &mut [u8])
     }
 }
 
-/// Returns the means of the pairs of 32 bytes. A lane holds a pair.
+/// Returns the means of the sixteen pairs of 32 bytes. Each vector lane holds a pair.
 #[inline(always)]
 fn means_of_pairs(bytes: &[u8]) -> u8x16
     requires { length bytes.now ≡ 32 }

@@ -1,4 +1,4 @@
-//! Planes in another size, as chroma has beside luma.
+//! Planes enlarged or halved by integer ratios, as chroma planes are when the chroma format changes.
 ghost use Rattle.std.specs.Prelude.{◌≡◌, ◌+◌, ◌/◌, ◌<◌, ◌≤◌, ℕ};
 ghost use Rattle.v_frame.specs.Prelude.{pixel_at, table_of, KeepsBorder};
 ghost use Rattle.v_frame_convert.specs.Chroma.{upscaled, IsSubsampledSize};
@@ -9,11 +9,13 @@ use crate::rows;
 use v_frame::pixel::Pixel;
 use v_frame::plane::{Plane, PlaneRef, VisibleMut};
 
-/// Shows in `target` what `source` shows, with each pixel `ratio_x` times across and `ratio_y` times down: the pixel of column
-/// `x` in row `y` is that of column `x / ratio_x` in row `y / ratio_y`. The border of the target stays.
+/// Enlarges `source` into `target` by repeating pixels (nearest neighbor): each source pixel is repeated `ratio_x` times in its
+/// row, and each row `ratio_y` times. The target pixel at column `x` of row `y` is the source pixel at column `x / ratio_x` of
+/// row `y / ratio_y`. The padding of `target` stays unchanged.
 ///
-/// The source has a pixel for each block that is begun, as [`subsampled_size`](crate::subsampled_size) counts them: where the
-/// ratio doesn't divide a size, the last column or row is repeated fewer times. Ratios of 1, 2 and 4 are the fast ones.
+/// The size of `source` is the size of `target` divided by the ratios, rounded up, as
+/// [`subsampled_size`](crate::subsampled_size) computes it. If a ratio does not divide the size of `target`, the last column or
+/// row is repeated fewer times. Ratios of 1, 2 and 4 are the fastest.
 pub fn upscale<T: Copy>(
     source: &PlaneRef<'_, T>,
     target: &mut Plane<T>,
@@ -40,12 +42,13 @@ pub fn upscale<T: Copy>(
     rows::upscale(&source, entries, width, height, stride, ratio_x, ratio_y);
 }
 
-/// Shows in `target` what `source` shows, in half the size, rounded up: each pixel is the mean of a block of two by two,
-/// rounded to the nearest value and upwards at a half. At an odd width the last column counts twice, and at an odd height the
-/// last row. The border of the target stays.
+/// Halves the width and the height of `source` into `target`, with odd sizes rounded up. Each pixel is the mean of a block of 2
+/// by 2 source pixels, rounded to the nearest integer, halves up. If the width is odd, the last column counts twice, and if the
+/// height is odd, the last row counts twice. The padding of `target` stays unchanged.
 ///
-/// It is [`resample`](crate::resample) by two halves at one depth, and faster. Ask [`subsampled_size`](crate::subsampled_size) for
-/// the sizes of the target.
+/// [`subsampled_size`](crate::subsampled_size) with a ratio of 2 computes the size of `target`. If all samples fit the bit
+/// depth, [`resample`](crate::resample) with [`Half`](crate::Scale::Half) in both directions and no change of depth writes the
+/// same pixels, but is slower.
 pub fn downscale_to_edge<T: Pixel>(source: &PlaneRef<'_, T>, target: &mut Plane<T>)
     requires wide { target.old.geometry.width ≡ (source.now.geometry.width + 1) / 2 }
     requires high { target.old.geometry.height ≡ (source.now.geometry.height + 1) / 2 }
@@ -63,10 +66,12 @@ pub fn downscale_to_edge<T: Pixel>(source: &PlaneRef<'_, T>, target: &mut Plane<
     rows::downscale_to_edge(&source, entries, width, height, stride);
 }
 
-/// Shows in `target` what `source` shows, with half as many columns, rounded up: each pixel is the mean of two, rounded upwards
-/// at a half. At an odd width the last column is by itself. The border of the target stays.
+/// Halves the width of `source` into `target`, with an odd width rounded up. Each pixel is the mean of two adjacent source
+/// pixels, rounded to the nearest integer, halves up. If the width is odd, the last column is copied. The height stays the
+/// same. The padding of `target` stays unchanged.
 ///
-/// It is [`resample`](crate::resample) by a half of the columns at one depth, and faster.
+/// If all samples fit the bit depth, [`resample`](crate::resample) with [`Half`](crate::Scale::Half) across,
+/// [`Same`](crate::Scale::Same) down and no change of depth writes the same pixels, but is slower.
 pub fn halve_columns<T: Pixel>(source: &PlaneRef<'_, T>, target: &mut Plane<T>)
     requires wide { target.old.geometry.width ≡ (source.now.geometry.width + 1) / 2 }
     requires high { target.old.geometry.height ≡ source.now.geometry.height }

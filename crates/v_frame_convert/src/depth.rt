@@ -1,4 +1,4 @@
-//! Planes in another bit depth.
+//! Planes converted to another bit depth.
 ghost use Rattle.std.specs.Prelude.{◌≡◌};
 ghost use Rattle.v_frame.specs.Prelude.{KeepsBorder, table_of};
 ghost use Rattle.v_frame_convert.specs.Convert.{converted};
@@ -8,13 +8,14 @@ use crate::rows;
 use v_frame::pixel::Pixel;
 use v_frame::plane::{Plane, PlaneRef, VisibleMut};
 
-/// Shows in `target` what `source` shows, with its values of bit depth `from` in bit depth `to`. The border of the target
-/// stays.
+/// Converts the values of `source` from bit depth `from` to bit depth `to` and writes them into `target`, which has the same
+/// size. The padding of `target` stays unchanged.
 ///
-/// To a greater depth a value is shifted, as limited range wants it: 235 of 8 bits becomes 940 of 10, and 255 becomes 1020. To a smaller depth it is rounded to the nearest
-/// value, upwards at a half, and at most to the largest one. A value above the largest of depth `from` counts as that one.
+/// To a greater depth a value is shifted left, `value << (to - from)`, as the limited range requires: for example, 235 of 8
+/// bits becomes 940 of 10 bits, and 255 becomes 1020. To a smaller depth it is rounded to the nearest integer, halves up, and
+/// clipped to `2^to - 1`. A value above `2^from - 1` is first replaced by `2^from - 1`.
 ///
-/// Each depth has to fit its type of pixels: ask [`depth_fits`](crate::depth_fits).
+/// Each depth must fit its type of pixels, as [`depth_fits`](crate::depth_fits) tests.
 pub fn convert_depth<S: Pixel, T: Pixel>(
     source: &PlaneRef<'_, S>,
     target: &mut Plane<T>,

@@ -1,8 +1,8 @@
-//! Values of one bit depth at another.
+//! Conversion of single values between bit depths.
 ghost use Rattle.std.specs.Prelude.{◌≡◌, ◌-◌, ◌/◌, ◌^◌, ◌<◌, ◌≤◌};
 ghost use Rattle.v_frame_convert.specs.Depth.{at_depth, largest_value};
 
-/// A change of bit depth, worked out once for many values.
+/// A conversion from one bit depth to another, with its constants computed once for many values.
 #[derive(Drop)]
 pub(crate) struct DepthChange {
     from: u8,
@@ -24,7 +24,7 @@ pub(crate) struct DepthChange {
 }
 
 impl DepthChange {
-    /// Returns the change from one depth to another, both 8 to 16.
+    /// Returns the conversion from depth `from` to depth `to`, both from 8 to 16 bits.
     pub(crate) fn new(from: u8, to: u8) -> Self
         requires from { (8 ≤ from) × (from ≤ 16) }
         requires to { (8 ≤ to) × (to ≤ 16) }
@@ -43,7 +43,7 @@ impl DepthChange {
         }
     }
 
-    /// Returns a value at the other depth, which is no smaller one.
+    /// Returns `value` at the other depth, which is not smaller.
     #[inline(always)]
     pub(crate) fn raise(&self, value: u16) -> u16
         requires { self.now.from ≤ self.now.to }
@@ -53,9 +53,10 @@ impl DepthChange {
         value.min(self.largest_source) << self.up
     }
 
-    /// Returns a value at the other depth.
+    /// Returns `value` at the other depth.
     ///
-    /// One of the two shifts is by no bit. A sum that is cut off at 65535 is of a value that becomes the largest.
+    /// At least one of the two shifts is by 0 bits. If the sum saturates at 65535, the result is the largest value of the depth
+    /// in any case.
     #[inline(always)]
     pub(crate) fn apply(&self, value: u16) -> u16
         ensures value { result ≡ at_depth self.now.from self.now.to value }

@@ -1,4 +1,4 @@
-//! Whole frames in another bit depth and chroma format.
+//! Whole frames converted to another bit depth and chroma format.
 ghost use Rattle.std.specs.Prelude.{◌≡◌, ◌≢◌, ◌-◌, ◌^◌, ◌↔◌, IsTrue, option_map};
 ghost use Rattle.std.specs.Int.NonZero.{non_zero_u8_get};
 ghost use Rattle.v_frame.specs.Prelude.{border_and_geometry, table_of, tables_of, KeepsBorders};
@@ -15,15 +15,17 @@ use v_frame::pixel::Pixel;
 use v_frame::plane::Plane;
 use v_frame_ops::fill;
 
-/// Shows in `target` what `source` shows, in the target's bit depth and chroma format. Borders stay.
+/// Converts `source` to the bit depth and the chroma format of `target` and writes it into `target`. The padding stays
+/// unchanged.
 ///
-/// Luma is converted as by [`convert_depth`], and each chroma plane that the target has as by [`resample`]: where its format has
-/// fewer of them, chroma pixels are means, at the center of the luma that they are of, and where it has more they are repeated.
-/// Chroma planes that the target doesn't have are left out. Those that the source doesn't have are filled with the middle of the
-/// target's depth, which is no color.
+/// The luma plane is converted as by [`convert_depth`], and each chroma plane of `target` as by [`resample`]. If the target
+/// format has fewer chroma samples, they are means of blocks, sited at the center of the luma samples that they cover. If it
+/// has more, chroma samples are repeated. Chroma planes that `target` does not have are dropped. If `source` has no chroma
+/// plane, the plane of `target` is filled with the neutral value `2^(depth - 1)`.
 ///
-/// The luma planes have one size, and the chroma planes the sizes of their formats: ask [`frames_fit`]. Two frames that
-/// `FrameBuilder` built with one luma size fit, if each format divides it.
+/// [`frames_fit`] tests whether the two frames fit: the luma planes must have the same size, and the chroma planes the sizes
+/// that their formats require. Two frames that `FrameBuilder` built with the same luma size fit if each format divides that
+/// size.
 pub fn convert_frame<S: Pixel, T: Pixel>(source: &Frame<S>, target: &mut Frame<T>)
     requires { FramesFit S.BYTES T.BYTES source.now target.old }
     ensures tables { tables_of target.new
@@ -42,17 +44,18 @@ pub fn convert_frame<S: Pixel, T: Pixel>(source: &Frame<S>, target: &mut Frame<T
     convert_chroma(&source.v_plane, &mut target.v_plane, across, down, from, to);
 }
 
-/// Returns whether [`convert_frame`] can convert one frame into the other: the luma planes have one size, each depth fits its
-/// type of pixels, and chroma planes that both have are as large as the formats say, rounded up.
+/// Returns whether [`convert_frame`] can convert `source` into `target`: the luma planes have the same size, each bit depth
+/// fits its type of pixels, and chroma planes that both frames have are as large as their formats require, rounded up.
 ///
-/// A plane that stands for chroma in a monochrome frame has the size of luma, and fits one of its own size alone.
+/// A plane in a chroma field of a monochrome frame must have the size of the luma plane, and fits only a plane of the same
+/// size.
 pub fn frames_fit<S: Pixel, T: Pixel>(source: &Frame<S>, target: &Frame<T>) -> bool
     ensures { IsTrue result ↔ FramesMatch S.BYTES T.BYTES source.now target.now }
 {
     planes_fit(source, target) && have_all_chroma_sizes(source, target)
 }
 
-/// Returns whether the sizes of all planes belong together, and each depth fits its type of pixels.
+/// Returns whether the sizes of all planes correspond, and each bit depth fits its type of pixels.
 fn planes_fit<S: Pixel, T: Pixel>(source: &Frame<S>, target: &Frame<T>) -> bool
     ensures { IsTrue result ↔ FramesFit S.BYTES T.BYTES source.now target.now }
 {
@@ -65,7 +68,7 @@ fn planes_fit<S: Pixel, T: Pixel>(source: &Frame<S>, target: &Frame<T>) -> bool
         && chroma_fits(&source.v_plane, &target.v_plane, across, down)
 }
 
-/// Returns whether chroma planes that both frames have are as large as the formats say.
+/// Returns whether the chroma planes that both frames have are as large as their formats require.
 fn have_all_chroma_sizes<S: Pixel, T: Pixel>(source: &Frame<S>, target: &Frame<T>) -> bool
     ensures { IsTrue result ↔ HaveChromaSizes source.now target.now }
 {
@@ -73,7 +76,7 @@ fn have_all_chroma_sizes<S: Pixel, T: Pixel>(source: &Frame<S>, target: &Frame<T
         && have_chroma_sizes(source, target, &source.v_plane, &target.v_plane)
 }
 
-/// Returns whether the sizes of two chroma planes belong together, where both are there.
+/// Returns whether the sizes of two chroma planes correspond. This holds if one of the planes is missing.
 fn chroma_fits<S, T>(
     source: &Option<Plane<S>>,
     target: &Option<Plane<T>>,
@@ -91,7 +94,8 @@ fn chroma_fits<S, T>(
     }
 }
 
-/// Returns whether two chroma planes are as large as the formats of their frames say, where both are there.
+/// Returns whether two chroma planes are as large as the formats of their frames require. This holds if one of the planes is
+/// missing.
 fn have_chroma_sizes<S: Pixel, T: Pixel>(
     source: &Frame<S>,
     target: &Frame<T>,
@@ -106,7 +110,7 @@ fn have_chroma_sizes<S: Pixel, T: Pixel>(
     }
 }
 
-/// Returns whether both are.
+/// Returns whether both chroma planes are as large as the formats of their frames require.
 fn are_chroma_sizes<S: Pixel, T: Pixel>(
     source: &Frame<S>,
     target: &Frame<T>,
@@ -122,7 +126,7 @@ fn are_chroma_sizes<S: Pixel, T: Pixel>(
         && is_chroma_size(target.subsampling, &target.y_plane, to)
 }
 
-/// Returns whether a chroma plane is as large as its format says beside luma.
+/// Returns whether a chroma plane is as large as its format requires for this luma plane.
 fn is_chroma_size<T: Pixel>(format: ChromaSubsampling, luma: &Plane<T>, chroma: &Plane<T>) -> bool
     ensures { IsTrue result ↔ IsChromaSize format luma.now.geometry.width luma.now.geometry.height
         chroma.now }
@@ -132,7 +136,7 @@ fn is_chroma_size<T: Pixel>(format: ChromaSubsampling, luma: &Plane<T>, chroma: 
         && sizes_fit(down, chroma.height(), luma.height())
 }
 
-/// Returns how many columns and rows chroma of one format has beside that of another.
+/// Returns the scale of columns and the scale of rows between the chroma planes of two formats.
 fn scales_of(source: ChromaSubsampling, target: ChromaSubsampling) -> (Scale, Scale)
     ensures value { result ≡ scales_between source target }
     ensures pairs { result.1 ≢ Quarter }
@@ -146,7 +150,7 @@ fn scales_of(source: ChromaSubsampling, target: ChromaSubsampling) -> (Scale, Sc
     }
 }
 
-/// Returns how many columns there are, where one has so many luma columns.
+/// Returns the scale of chroma columns from a format with `from` luma columns for each chroma column to a format with `to`.
 fn columns_of(from: u8, to: u8) -> Scale
     ensures { result ≡ column_scale from to }
 {
@@ -164,7 +168,7 @@ fn columns_of(from: u8, to: u8) -> Scale
     }
 }
 
-/// Returns how many rows there are, where one has so many luma rows.
+/// Returns the scale of chroma rows from a format with `from` luma rows for each chroma row to a format with `to`.
 fn lines_of(from: u8, to: u8) -> Scale
     ensures value { result ≡ line_scale from to }
     ensures pairs { result ≢ Quarter }
@@ -179,7 +183,8 @@ fn lines_of(from: u8, to: u8) -> Scale
     }
 }
 
-/// Shows a chroma plane in another size and depth, or no color where there is none, in the plane of the target that is there.
+/// Converts a chroma plane to another size and depth and writes it into the chroma plane of the target, if the target has one.
+/// If the source has none, the target plane is filled with the neutral value.
 fn convert_chroma<S: Pixel, T: Pixel>(
     source: &Option<Plane<S>>,
     target: &mut Option<Plane<T>>,
@@ -205,7 +210,7 @@ fn convert_chroma<S: Pixel, T: Pixel>(
     }
 }
 
-/// Returns the pixel of the middle of a depth.
+/// Returns the pixel of the neutral chroma value of a bit depth, `2^(depth - 1)`.
 fn middle<T: Pixel>(depth: u8) -> T
     requires { DepthFits T.BYTES depth }
     ensures { result ≡ T.form.pixel_of (2 ^ (depth - 1)) }

@@ -1,4 +1,4 @@
-//! Pictures in another bit depth, another range of values, another chroma format or another type of pixels.
+//! Conversions of pictures: bit depth, range (limited or full), chroma format, and type of pixels.
 #![tactic(auto)]
 
 mod byte_pairs;

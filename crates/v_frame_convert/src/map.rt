@@ -1,4 +1,4 @@
-//! Planes whose pixels are made of those of another plane, which may have pixels of another type.
+//! Planes computed pixel by pixel from another plane, which may have another type of pixels.
 ghost use Rattle.std.specs.Prelude.{◌≡◌, ℕ, List};
 ghost use Rattle.v_frame.specs.Prelude.{KeepsBorder, table_of};
 ghost use Rattle.v_frame_convert.specs.Convert.{converted, GivesPixels};
@@ -7,10 +7,11 @@ use crate::rows;
 use v_frame::pixel::Pixel;
 use v_frame::plane::{Plane, PlaneRef, VisibleMut};
 
-/// Makes each visible pixel of `target` a result of `change` at the pixel of the same column and row of `source`, which has the
-/// same size. The border of the target stays.
+/// Sets each visible pixel of `target` to the result of `change` for the pixel of `source` in the same column and row. Both
+/// planes have the same size, and their types of pixels may differ. The padding of `target` stays unchanged.
 ///
-/// `change` has to accept any pixel. With a shift, a comparison or the like the compiler makes packed code of it.
+/// `change` must accept every pixel of its type. The compiler vectorizes a simple `change`, for example a shift or a
+/// comparison.
 pub fn map_into<S: Pixel, T: Pixel, F: Fn(S) -> T>(
     source: &PlaneRef<'_, S>,
     target: &mut Plane<T>,

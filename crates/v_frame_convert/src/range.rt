@@ -1,4 +1,4 @@
-//! Planes in the other range of values.
+//! Planes converted between the limited range and the full range.
 ghost use Rattle.std.specs.Prelude.{◌≡◌};
 ghost use Rattle.v_frame.specs.Prelude.{KeepsBorder, table_of};
 ghost use Rattle.v_frame_convert.specs.Convert.{converted};
@@ -9,23 +9,24 @@ use crate::rows;
 use v_frame::pixel::Pixel;
 use v_frame::plane::{Plane, PlaneRef, VisibleMut};
 
-/// What a plane holds: luma, or a component of chroma, whose values lie about a middle.
+/// The component of a picture that a plane holds. It decides which values are in the limited range.
 #[derive(Debug, Clone, Copy, PartialEq, Eq)]
 pub enum Component {
-    /// Luma, which is from 16 to 235 in the limited range of 8 bits.
+    /// Luma. Its limited range at 8 bits is from 16 (black) to 235 (white).
     Luma,
-    /// A chroma component, which is from 16 to 240 there, and 128 where there is no color.
+    /// One of the two chroma components. Its limited range at 8 bits is from 16 to 240, and 128 is neutral.
     Chroma,
 }
 
-/// Shows in `target` what `source` shows, with its values of the limited range in the full range of a bit depth. The border of
-/// the target stays.
+/// Converts `source` from the limited range to the full range of bit depth `depth` and writes it into `target`, which has the
+/// same size. The padding of `target` stays unchanged.
 ///
-/// Black, 16 in luma of 8 bits, becomes 0, and white, 235, becomes 255. In chroma 128 stays, 16 becomes 1 and 240 255. The
-/// limits of ITU-R BT.601, BT.709 and BT.2100 for more bits are these times 2 ^ (depth - 8). A value is rounded to the nearest
-/// one, upwards at a half, and what is outside of the limited range becomes 0 or the largest value.
+/// Let `k` be `2^(depth - 8)` and `peak` be `2^depth - 1`. A luma value `v` becomes `(v - 16 * k) * peak / (219 * k)`, and a
+/// chroma value `v` becomes `(v - 128 * k) * peak / (224 * k) + 128 * k`. The result is rounded to the nearest integer, halves
+/// up, and clipped to `0..=peak`. At 8 bits, luma 16 becomes 0 and 235 becomes 255; chroma 16 becomes 1, 128 stays 128, and 240
+/// becomes 255. These are the ranges of ITU-R BT.601, BT.709 and BT.2100.
 ///
-/// The depth has to fit the type of the pixels: ask [`depth_fits`](crate::depth_fits).
+/// The depth must fit the type of the pixels, as [`depth_fits`](crate::depth_fits) tests.
 pub fn to_full_range<T: Pixel>(
     source: &PlaneRef<'_, T>,
     target: &mut Plane<T>,
@@ -49,13 +50,15 @@ pub fn to_full_range<T: Pixel>(
     rows::to_full_range(&source, entries, width, height, stride, component, depth);
 }
 
-/// Shows in `target` what `source` shows, with its values of the full range in the limited range of a bit depth. The border of
-/// the target stays.
+/// Converts `source` from the full range to the limited range of bit depth `depth` and writes it into `target`, which has the
+/// same size. The padding of `target` stays unchanged.
 ///
-/// It is the way back of [`to_full_range`]: 0 of luma of 8 bits becomes 16, and 255 becomes 235. A value is rounded to the
-/// nearest one, and one above the largest of the depth counts as that one.
+/// This is the inverse of [`to_full_range`] up to rounding. Let `k` be `2^(depth - 8)` and `peak` be `2^depth - 1`. A luma
+/// value `v` becomes `16 * k + v * 219 * k / peak`, and a chroma value `v` becomes `128 * k + (v - 128 * k) * 224 * k / peak`.
+/// The result is rounded to the nearest integer, halves up. At 8 bits, luma 0 becomes 16 and 255 becomes 235. A value above
+/// `peak` is first replaced by `peak`.
 ///
-/// The depth has to fit the type of the pixels: ask [`depth_fits`](crate::depth_fits).
+/// The depth must fit the type of the pixels, as [`depth_fits`](crate::depth_fits) tests.
 pub fn to_limited_range<T: Pixel>(
     source: &PlaneRef<'_, T>,
     target: &mut Plane<T>,

@@ -1,9 +1,9 @@
-//! Values of the limited range in the full one, and back, in 32 bits.
+//! Conversion of single values between the limited range and the full range, computed in 32 bits.
 ghost use Rattle.std.specs.Prelude.{◌≡◌, ◌+◌, ◌-◌, ◌*◌, ◌/◌, ◌^◌, ◌<◌, ◌≤◌};
 ghost use Rattle.v_frame_convert.specs.Depth.{largest_value};
 ghost use Rattle.v_frame_convert.specs.Range.{luma_in_full_range, chroma_in_full_range, luma_in_limited_range, chroma_in_limited_range, unit_of};
 
-/// Returns what 1 of the limits for 8 bits is at a depth.
+/// Returns `2^(depth - 8)`, the factor between the limits at 8 bits and the limits at `depth` bits.
 #[inline(always)]
 fn unit(depth: u8) -> u32
     requires { (8 ≤ depth) × (depth ≤ 16) }
@@ -13,7 +13,7 @@ fn unit(depth: u8) -> u32
     1 << (depth - 8)
 }
 
-/// Returns the largest value of a depth.
+/// Returns the largest value of a bit depth.
 #[inline(always)]
 fn largest(depth: u8) -> u32
     requires { (8 ≤ depth) × (depth ≤ 16) }
@@ -24,7 +24,7 @@ fn largest(depth: u8) -> u32
     (1 << depth) - 1
 }
 
-/// Returns a luma value of the limited range in the full range.
+/// Converts a luma value from the limited range to the full range.
 #[inline(always)]
 pub(crate) fn luma_to_full(value: u16, depth: u8) -> u16
     requires { (8 ≤ depth) × (depth ≤ 16) }
@@ -37,7 +37,7 @@ pub(crate) fn luma_to_full(value: u16, depth: u8) -> u16
     ((sum >> (depth - 8)) / 219).min(largest) as u16
 }
 
-/// Returns a chroma value of the limited range in the full range.
+/// Converts a chroma value from the limited range to the full range.
 #[inline(always)]
 pub(crate) fn chroma_to_full(value: u16, depth: u8) -> u16
     requires { (8 ≤ depth) × (depth ≤ 16) }
@@ -50,8 +50,8 @@ pub(crate) fn chroma_to_full(value: u16, depth: u8) -> u16
     ((sum.saturating_sub(below) >> (depth - 8)) / 224).min(largest) as u16
 }
 
-/// Returns a number divided by the largest value of a depth: a number of two digits in base 2 ^ depth is nearly its upper digit
-/// times that value.
+/// Returns `number` divided by the largest value of the depth, without a division. In base `2^depth` the number has two digits,
+/// so the quotient is its upper digit, sometimes plus 1.
 #[inline(always)]
 fn by_largest(number: u32, depth: u8) -> u32
     requires depth { (8 ≤ depth) × (depth ≤ 16) }
@@ -61,7 +61,7 @@ fn by_largest(number: u32, depth: u8) -> u32
     (number + (number >> depth) + 1) >> depth
 }
 
-/// Returns a luma value of the full range in the limited range.
+/// Converts a luma value from the full range to the limited range.
 #[inline(always)]
 pub(crate) fn luma_to_limited(value: u16, depth: u8) -> u16
     requires { (8 ≤ depth) × (depth ≤ 16) }
@@ -73,7 +73,7 @@ pub(crate) fn luma_to_limited(value: u16, depth: u8) -> u16
     (16 * unit + by_largest(sum, depth)) as u16
 }
 
-/// Returns a chroma value of the full range in the limited range.
+/// Converts a chroma value from the full range to the limited range.
 #[inline(always)]
 pub(crate) fn chroma_to_limited(value: u16, depth: u8) -> u16
     requires { (8 ≤ depth) × (depth ≤ 16) }
@@ -86,7 +86,8 @@ pub(crate) fn chroma_to_limited(value: u16, depth: u8) -> u16
     by_largest(sum, depth) as u16
 }
 
-/// Returns a luma value of 8 bits of the full range in the limited range. The compiler packs these 16 bits.
+/// Converts an 8-bit luma value from the full range to the limited range. The computation fits 16 bits, so the compiler
+/// vectorizes it well.
 #[inline(always)]
 pub(crate) fn luma_byte_to_limited(value: u16) -> u16
     ensures value { result ≡ luma_in_limited_range 8 value }
@@ -95,7 +96,7 @@ pub(crate) fn luma_byte_to_limited(value: u16) -> u16
     16 + (value.min(255) * 219 + 127) / 255
 }
 
-/// Returns a chroma value of 8 bits of the full range in the limited range.
+/// Converts an 8-bit chroma value from the full range to the limited range. The computation fits 16 bits.
 #[inline(always)]
 pub(crate) fn chroma_byte_to_limited(value: u16) -> u16
     ensures value { result ≡ chroma_in_limited_range 8 value }

@@ -1,4 +1,4 @@
-//! Planes in another size, and how the sizes of two planes belong together.
+//! Planes converted to the size of another chroma format, and the ratios between the sizes of two planes.
 ghost use Rattle.std.specs.Prelude.{◌≡◌, ◌≢◌, ◌↔◌, IsTrue};
 ghost use Rattle.v_frame.specs.Prelude.{table_of, KeepsBorder};
 ghost use Rattle.v_frame_convert.specs.Depth.{pixel_of_depth, DepthFits};
@@ -9,22 +9,23 @@ use crate::rows;
 use v_frame::pixel::Pixel;
 use v_frame::plane::{Plane, PlaneRef, VisibleMut};
 
-/// How many columns, or rows, a plane has beside another one.
+/// The ratio of the width (or height) of a target plane to the width (or height) of a source plane.
 #[derive(Debug, Clone, Copy, PartialEq, Eq)]
 pub enum Scale {
-    /// One for each four of the other plane that are begun: their mean.
+    /// A quarter, rounded up. Each target pixel is the mean of four source pixels.
     Quarter,
-    /// One for each two that are begun: their mean.
+    /// A half, rounded up. Each target pixel is the mean of two source pixels.
     Half,
-    /// As many.
+    /// The same size.
     Same,
-    /// Twice as many, or one less: each is repeated.
+    /// Twice as many, or one less. Each source pixel is repeated twice.
     Double,
-    /// Four times as many, or up to three less.
+    /// Four times as many, or up to three less. Each source pixel is repeated four times.
     Quadruple,
 }
 
-/// Returns whether two planes of so many columns, or rows, have such sizes.
+/// Returns whether a plane with `source` columns (or rows) can be converted to a plane with `target` columns (or rows) at this
+/// scale.
 pub fn sizes_fit(scale: Scale, source: usize, target: usize) -> bool
     ensures { IsTrue result ↔ SizesFit scale source target }
 {
@@ -37,15 +38,19 @@ pub fn sizes_fit(scale: Scale, source: usize, target: usize) -> bool
     }
 }
 
-/// Shows in `target` what `source` shows, in another size and another bit depth.
+/// Converts `source` to another size and another bit depth and writes it into `target`. The padding of `target` stays
+/// unchanged. Chroma planes change from one format to another in this way: for example, from 4:4:4 to 4:2:0 with `Half` in both
+/// directions.
 ///
-/// The border of the target stays. `across` says how many columns the target has beside the source, and `down` how many rows,
-/// which may not be [`Quarter`](Scale::Quarter). Where it has fewer, a pixel is the mean of its block, rounded to the nearest
-/// value and upwards at a half; past an edge the last column or row is repeated. Where it has more, pixels are repeated. So chroma
-/// changes from one format to another, as from 4:4:4 to 4:2:0 by two halves, and lies at the center of the luma that it is of, as
-/// in JPEG and MPEG-1. The value then becomes one of depth `to`, as in [`convert_depth`](crate::convert_depth).
+/// `across` relates the width of `target` to the width of `source`, and `down` relates the heights. `down` must not be
+/// [`Quarter`](Scale::Quarter). If the target is smaller, each pixel is the mean of the block that it covers (box filter),
+/// rounded to the nearest integer, halves up. At the right and lower edge the last column or row is repeated to fill a block.
+/// If the target is larger, pixels are repeated (nearest neighbor). Chroma samples are therefore sited at the center of the
+/// luma samples that they cover, as in JPEG and MPEG-1. The value is then converted from depth `from` to depth `to`, as in
+/// [`convert_depth`](crate::convert_depth).
 ///
-/// Ask [`sizes_fit`](sizes_fit) and [`depth_fits`](crate::depth_fits).
+/// The sizes must correspond, as [`sizes_fit`](sizes_fit) tests, and each depth must fit its type of pixels, as
+/// [`depth_fits`](crate::depth_fits) tests.
 pub fn resample<S: Pixel, T: Pixel>(
     source: &PlaneRef<'_, S>,
     target: &mut Plane<T>,

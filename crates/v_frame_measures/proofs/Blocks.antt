@@ -1,4 +1,4 @@
--- Sums over blocks of four columns and four rows: of columns, and two blocks below each other.
+-- Sums over blocks of 4 by 4 pixels, computed from sums over columns, and sums over two blocks, one under the other.
 use Rattle.std.proofs.Common.{ℕ, suc, ◌≡◌, ◌+◌, ◌-◌, ◌*◌, ◌≤◌, ◌<◌, All, List, [], ◌∷◌, ◌++◌, length, take, drop, get_or}
 use Rattle.std.proofs.Common.{refl, ap, arith, map, sym, ◌∙◌, min}
 use Rattle.std.proofs.lemmas.List.{map-append, drop-drop, length-take, length-take-le, length-drop, length-append, get_or-take, get_or-drop}
@@ -27,7 +27,7 @@ module _ {T : Type 0} (value : T → ℕ) where
   long : (x width : ℕ) (row : List T) → x + width ≤ length row → length (take width (drop x row)) ≡ width
   long x width row wide = length-take-le width (drop x row) (omega (arith, length-drop x row, wide))
 
-  -- columns are the first and the others
+  -- Columns are the first columns and the remaining ones.
   columns_joined : (x u v : ℕ) (a b : Table T) → length a ≡ length b → Reach (x + u + v) a → Reach (x + u + v) b
       → of_columns x (u + v) a b ≡ added (of_columns x u a b) (of_columns (x + u) v a b)
   columns_joined x u v [] [] same wide wide1 = refl
@@ -75,7 +75,7 @@ module _ {T : Type 0} (value : T → ℕ) where
 
   module _ (width width1 : ℕ) (a b : Table T) (wide : All (λ row. length row ≡ width) a)
       (wide1 : All (λ row. length row ≡ width1) b) (same : length a ≡ length b) where
-    -- four columns are one and one and one and one
+    -- Four columns are four single columns.
     four_columns : (x y : ℕ) → x + 4 ≤ width → x + 4 ≤ width1
         → let p = take 4 (drop y a) in let q = take 4 (drop y b) in
         added (added (added (of_columns x 1 p q) (of_columns (x + 1) 1 p q)) (of_columns (x + 2) 1 p q))
@@ -94,7 +94,7 @@ module _ {T : Type 0} (value : T → ℕ) where
         sym (four ∙ ap (λ s. added s (of_columns (x + 3) 1 p q))
         (three ∙ ap (λ s. added s (of_columns (x + 2) 1 p q)) two))
 
-    -- four of the sums over columns are those over a block
+    -- Four sums over adjacent columns are the sums over a block.
     pub block_is : (x y k : ℕ) (sums : ColumnSums) → k < 8 → x + 32 ≤ width → x + 32 ≤ width1
         → AreColumnSums value x (take 4 (drop y a)) (take 4 (drop y b)) sums
         → block_of sums k ≡ sums_of_rectangle value (x + 4 * k) y 4 4 a b
@@ -148,7 +148,7 @@ module _ {T : Type 0} (value : T → ℕ) where
         let next : w * suc (length rows) ≡ w + w * length rows = omega arith in
         omega (arith, length-append (take w (drop x row)) (row_major (columns x w rows)), here, rest, next)
 
-    -- a block and the one below it
+    -- A block and the block below it.
     pub blocks_joined : (x y : ℕ) → x + 4 ≤ width → x + 4 ≤ width1
         → sums_of_rectangle value x y 4 8 a b
         ≡ added (sums_of_rectangle value x y 4 4 a b) (sums_of_rectangle value x (y + 4) 4 4 a b)

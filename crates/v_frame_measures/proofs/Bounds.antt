@@ -1,4 +1,4 @@
--- How large sums are at most, over pixels whose values are below a limit.
+-- Upper bounds for sums over pixels whose values are below a limit.
 use Rattle.std.proofs.Common.{ℕ, zero, suc, ◌≡◌, ◌+◌, ◌*◌, ◌≤◌, List, [], ◌∷◌, ◌++◌, length, take, drop, map, arith}
 use Rattle.std.proofs.Math.Nat.{mul-le-mul, le_refl}
 use Rattle.std.proofs.lemmas.List.{length-take, length-append}
@@ -11,7 +11,7 @@ use Rattle.v_frame_measures.specs.declared.similarity.sums.PixelSums.{PixelSums}
 use Rattle.v_frame_measures.specs.ColumnSums.{HasValuesUpTo, IsUpTo}
 use Rattle.v_frame_measures.specs.PixelSums.{sums_of_rectangle}
 
--- sums over so many pixels whose values are at most this one
+-- Bounds for the sums over `pixels` pixels whose values are at most `most`.
 pub record AtMost (most pixels : ℕ) (sums : PixelSums) : Type 0 where
   pub first : sums.first ≤ most * pixels
   pub second : sums.second ≤ most * pixels
@@ -66,7 +66,7 @@ module _ {T : Type 0} (value : T → ℕ) (most : ℕ) where
       let here = all 0 x (omega arith) in
       (omega (arith, here, h), of_row least h xs (λ k d within. all (suc k) d (omega (arith, within))))
 
-  -- the pixels of a rectangle are few enough, and small
+  -- The bounds on the number and on the values of the pixels of a rectangle.
   record Part (pixels : ℕ) (xs : List T) : Type 0 where
     few : Few xs
     long : length xs ≤ pixels

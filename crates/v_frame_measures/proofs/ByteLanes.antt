@@ -1,4 +1,4 @@
--- One lane of similarities: in 32 bits nothing wraps.
+-- One lane of the similarities: nothing overflows 32 bits.
 use Rattle.std.proofs.Common.{ℕ, ◌≡◌, ◌+◌, ◌*◌, ◌^◌, ◌%◌, ◌<◌, ◌≤◌, refl, ◌∙◌, arith, bit_and}
 use Rattle.std.specs.Float.Ieee.{binary32, mul, div}
 use Rattle.std.proofs.Math.Nat.{mul-le-mul, mod-eq_of_lt}

@@ -1,4 +1,4 @@
--- Sums over columns of four rows: one more column, parts of rows, and four columns beside each other.
+-- Sums over columns of four pixels: one more column, parts of rows, and four adjacent columns.
 use Rattle.std.proofs.Common.{ℕ, ◌≡◌, ◌+◌, ◌-◌, ◌*◌, ◌≤◌, ◌<◌, List, [], ◌∷◌, length, take, drop, get_or, set}
 use Rattle.std.proofs.Common.{refl, ap, arith, Some, slice_get, map, sym, ◌∙◌, zero-add, get_or-set_other, get_or-set_same, below_more}
 use Rattle.std.proofs.lemmas.List.{drop_more, drop-drop, drop-take, take-take, length-set, length-take-le, length-drop, get_or-take, get_or-drop}
@@ -10,7 +10,7 @@ use Rattle.v_frame_measures.specs.PixelSums.{sums_of}
 use Rattle.v_frame_measures.specs.ColumnSums.{AreColumnSums, HasNarrowValues, IsNarrow, IsNarrowPart, sums_of_column}
 use Rattle.v_frame_measures.proofs.Joined.{make, alike}
 
--- an item more of a list that is written from its front
+-- The loop step: one more item of a list that is written from its start.
 set_more : (P : ℕ → ℕ → Type 0) (xs : List ℕ) (i v : ℕ) → i < length xs
     → ((k : ℕ) → k < i → P k (get_or xs k 0)) → P i v → (k : ℕ) → k < i + 1 → P k (get_or (set xs i v) k 0)
 set_more P xs i v h before here =
@@ -19,7 +19,7 @@ set_more P xs i v h before here =
     (rw (get_or-set_same xs i v 0 h) here)
 
 module _ {T : Type 0} (value : T → ℕ) (a b : Table T) where
-  -- the first n columns are summed
+  -- The first `n` columns are summed.
   pub record SummedColumns (sums : ColumnSums) (n : ℕ) : Type 0 where
     pub long_first : length sums.first ≡ 32
     pub long_second : length sums.second ≡ 32
@@ -73,11 +73,11 @@ module _ {T : Type 0} (value : T → ℕ) (a b : Table T) where
       }
 
 module _ {T : Type 0} (value : T → ℕ) where
-  -- one pixel of a row
+  -- One pixel of a row.
   one_pixel : (x : ℕ) (row : List T) (u : T) → x < length row → u ≡ get_or row x u → take 1 (drop x row) ≡ u ∷ []
   one_pixel x row u h read = rw (drop_more row x u h) (ap (λ v. v ∷ []) (sym read))
 
-  -- those of a column of four rows
+  -- The four pixels of a column of four rows.
   four_pixels : (x : ℕ) (p0 p1 p2 p3 : List T) (u0 u1 u2 u3 : T) → x < length p0 → x < length p1 → x < length p2
       → x < length p3 → u0 ≡ get_or p0 x u0 → u1 ≡ get_or p1 x u1 → u2 ≡ get_or p2 x u2 → u3 ≡ get_or p3 x u3
       → row_major (map (λ row. take 1 (drop x row)) (p0 ∷ p1 ∷ p2 ∷ p3 ∷ [])) ≡ u0 ∷ u1 ∷ u2 ∷ u3 ∷ []
@@ -93,7 +93,7 @@ module _ {T : Type 0} (value : T → ℕ) where
   sums_of_four u0 u1 u2 u3 w0 w1 w2 w3 =
       alike _ _ _ _ _ _ _ _ (omega arith) (omega arith) (omega arith) (omega arith)
 
-  -- eight pixels of one column, and what is added of them
+  -- The pixels `u0` to `u3` of column `x` in four rows.
   pub record ColumnPixels (p0 p1 p2 p3 : List T) (x : ℕ) (u0 u1 u2 u3 : T) : Type 0 where
     pub long0 : x < length p0
     pub long1 : x < length p1
@@ -121,7 +121,7 @@ module _ {T : Type 0} (value : T → ℕ) where
       ∙ ap (sums_of value (row_major (map (λ row. take 1 (drop x row)) (p0 ∷ p1 ∷ p2 ∷ p3 ∷ [])))) (sym second)
       ∙ ap (λ n. sums_of_column value n (p0 ∷ p1 ∷ p2 ∷ p3 ∷ []) (q0 ∷ q1 ∷ q2 ∷ q3 ∷ [])) (sym (zero-add x))
 
-  -- a part of a row of narrow values
+  -- A part of a row whose values are below 8192.
   pub part_is_narrow : (rows : Table T) (y x n : ℕ) (row : List T) → HasNarrowValues value rows
       → slice_get rows y ≡ Some row → n ≡ 32 → x + n ≤ length row → IsNarrowPart value (take n (drop x row))
   part_is_narrow rows y x n row narrow is few wide =
@@ -137,7 +137,7 @@ module _ {T : Type 0} (value : T → ℕ) where
             (all (x + k) d (omega (arith, within, wide)));
       }
 
-  -- four rows of a picture
+  -- Four rows of a picture.
   four_rows : (a : Table T) (y : ℕ) (r0 r1 r2 r3 : List T) → slice_get a y ≡ Some r0 → slice_get a (y + 1) ≡ Some r1
       → slice_get a (y + 2) ≡ Some r2 → slice_get a (y + 3) ≡ Some r3
       → take 4 (drop y a) ≡ r0 ∷ r1 ∷ r2 ∷ r3 ∷ []
@@ -148,7 +148,7 @@ module _ {T : Type 0} (value : T → ℕ) where
       let three : y + 2 + 1 ≡ y + 3 = omega arith in
       rw (row y r0 is0, row (y + 1) r1 is1, two, row (y + 2) r2 is2, three, row (y + 3) r3 is3) refl
 
-  -- a column of a part of a row
+  -- A column of a part of a row.
   column_of_part : (n x k : ℕ) (row : List T) → k < n
       → take 1 (drop (0 + k) (take n (drop x row))) ≡ take 1 (drop (x + k) row)
   column_of_part n x k row h =
@@ -160,7 +160,7 @@ module _ {T : Type 0} (value : T → ℕ) where
       ∙ take-take 1 (n - k) (drop k (drop x row)) (omega arith)
       ∙ ap (take 1) (drop-drop k x row)
 
-  -- sums over the columns of parts of four rows are those over columns of the pictures
+  -- The sums over the columns of parts of four rows are the sums over columns of the pictures.
   pub parts_summed : (n x y : ℕ) (a b : Table T) (r0 r1 r2 r3 s0 s1 s2 s3 : List T) (sums : ColumnSums) → 32 ≤ n
       → slice_get a y ≡ Some r0 → slice_get a (y + 1) ≡ Some r1 → slice_get a (y + 2) ≡ Some r2
       → slice_get a (y + 3) ≡ Some r3 → slice_get b y ≡ Some s0 → slice_get b (y + 1) ≡ Some s1

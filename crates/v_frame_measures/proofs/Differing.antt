@@ -8,7 +8,7 @@ use Rattle.v_frame.specs.Prelude.{Table, pixel_at}
 use Rattle.v_frame_measures.specs.declared.differences.GreatestDifference.{GreatestDifference}
 use Rattle.v_frame_measures.specs.Differences.{DifferAt, DifferFirstBy, DifferNoMore, IsGreatestDifference, PixelsDifferAt}
 
--- a pixel is in a row that there is
+-- A pixel of a table lies in one of its rows.
 is_there : {T : Type 0} (rows : Table T) (x y : ℕ) (p : T) → pixel_at rows x y ≡ Some p → y < length rows
 is_there rows x y p is =
     elim (cases_lt y (length rows)) [
@@ -31,7 +31,7 @@ module _ {T : Type 0} (value : T → ℕ) where
       apart = apart;
     }
 
-    -- at one index there is one difference
+    -- Two rows have only one difference at each index.
     one_difference : (i d e : ℕ) → DifferAt value row other d i → DifferAt value row other e i → d ≡ e
     one_difference i d e this that =
         let first : this.one ≡ that.one = ap (λ p. unwrap_or p this.one) (sym this.first ∙ that.first) in
@@ -90,7 +90,7 @@ module _ {T : Type 0} (value : T → ℕ) where
       no_more d x e most differ =
           let here = in_row x e differ in most x e (slice_get_within row x here.one here.first) here
 
-    -- in the rows above a limit no difference is greater, and the place is the first of those that have it
+    -- No difference in the rows below `limit` is larger than the one found, and its position is the first that has it.
     pub record GreatestAbove (limit : ℕ) (found : GreatestDifference) : Type 0 where
       pub there : PixelsDifferAt value a b found.difference found.x found.y
       pub within : found.y < limit

@@ -1,4 +1,4 @@
--- The powers of two by which numbers are halved, as the machine has them, and a difference below zero.
+-- The powers of two by which numbers are split, as 64-bit words, and negative differences.
 use Rattle.std.proofs.Common.{ℕ, suc, ◌≡◌, ◌-◌, ◌<◌, refl, ap, ◌∙◌, arith, false}
 use Rattle.std.specs.Prelude.{pos, negsuc, ◌-ℤ◌}
 use Rattle.std.proofs.lemmas.Int.{ints}
@@ -17,7 +17,7 @@ negated : (f : Format) (n : ℕ) → neg (of_int f (pos (suc n))) ≡ of_int f (
 unfolding of_int
 negated f n = neg-round f (suc n) 1
 
--- the float of what the greater of two numbers has more, negated, is that of the difference
+-- The float of a negative difference is the negated float of its absolute value.
 pub negated_difference : (f : Format) (a b : ℕ) → a < b → neg (of_int f (pos (b - a))) ≡ of_int f (pos a -ℤ pos b)
 negated_difference f a b h =
     let more = b - a - 1 in

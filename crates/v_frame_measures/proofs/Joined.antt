@@ -18,7 +18,7 @@ pub alike : (a b c d a1 b1 c1 d1 : ℕ) → a ≡ a1 → b ≡ b1 → c ≡ c1 �
 alike a b c d a1 b1 c1 d1 e e1 e2 e3 = rw (e, e1, e2, e3) refl
 
 module _ {T : Type 0} (value : T → ℕ) where
-  -- sums over lists that are joined, the first two of one length
+  -- Sums over joined lists, if the first two lists have the same length.
   pub sums_of-append : (xs ys xs1 ys1 : List T) → length xs ≡ length ys
       → sums_of value (xs ++ xs1) (ys ++ ys1) ≡ added (sums_of value xs ys) (sums_of value xs1 ys1)
   sums_of-append xs ys xs1 ys1 same =
@@ -27,7 +27,7 @@ module _ {T : Type 0} (value : T → ℕ) where
       (omega (arith, sum_by-append square xs xs1, sum_by-append square ys ys1))
       ((sum_of_pairs-adds_up (λ pair. value pair.0 * value pair.1)).joined xs ys xs1 ys1 same)
 
-  -- one more pixel of each
+  -- One more pixel of each list.
   pub sums_of-more : (xs ys : List T) (i : ℕ) (p q : T) → length ys ≡ length xs → i < length xs → p ≡ get_or xs i p
       → q ≡ get_or ys i q
       → sums_of value (take (i + 1) xs) (take (i + 1) ys)
@@ -40,7 +40,7 @@ module _ {T : Type 0} (value : T → ℕ) where
       omega (arith, length-take-le i xs (omega arith), length-take-le i ys (omega arith)) in
       rw (one, other) (sums_of-append (take i xs) (take i ys) (p ∷ []) (q ∷ []) long)
 
-  -- the rows of a rectangle, one more
+  -- One more row of a rectangle.
   rectangle_more : (x y width h : ℕ) (rows : Table T) (row : List T) → slice_get rows (y + h) ≡ Some row
       → row_major (rectangle x y width (h + 1) rows)
       ≡ row_major (rectangle x y width h rows) ++ take width (drop x row)
@@ -57,7 +57,7 @@ module _ {T : Type 0} (value : T → ℕ) where
         append-nil (cut row),
       ) refl
 
-  -- one more row of a rectangle of two pictures
+  -- One more row of a rectangle of two pictures.
   pub sums_of_rectangle-more : (x y width h : ℕ) (a b : Table T) (row row1 : List T)
       → slice_get a (y + h) ≡ Some row → slice_get b (y + h) ≡ Some row1
       → length (row_major (rectangle x y width h a)) ≡ length (row_major (rectangle x y width h b))
@@ -68,7 +68,7 @@ module _ {T : Type 0} (value : T → ℕ) where
       rw (rectangle_more x y width h a row is, rectangle_more x y width h b row1 is1)
       (sums_of-append _ _ (take width (drop x row)) (take width (drop x row1)) same)
 
-  -- and how many pixels there are
+  -- The number of pixels of a rectangle with one more row.
   pub rectangle-length : (x y width h : ℕ) (rows : Table T) (row : List T) → slice_get rows (y + h) ≡ Some row
       → x + width ≤ length row
       → length (row_major (rectangle x y width (h + 1) rows))
@@ -78,7 +78,7 @@ module _ {T : Type 0} (value : T → ℕ) where
       rw (rectangle_more x y width h rows row is, length-append (row_major (rectangle x y width h rows)) cut)
       (omega (arith, length-take-le width (drop x row) (omega (arith, length-drop x row, wide))))
 
-  -- the columns of rows
+  -- The columns of some rows.
   abbrev columns : ℕ → ℕ → Table T → Table T
   columns x width rows = map (λ row. take width (drop x row)) rows
 
@@ -88,7 +88,7 @@ module _ {T : Type 0} (value : T → ℕ) where
   exchanged : (p q r s : PixelSums) → added (added p q) (added r s) ≡ added (added p r) (added q s)
   exchanged p q r s = alike _ _ _ _ _ _ _ _ (omega arith) (omega arith) (omega arith) (omega arith)
 
-  -- eight columns are four and the next four
+  -- Eight columns are four columns and the next four.
   eight_of_row : (x : ℕ) (row : List T) → take 8 (drop x row) ≡ take 4 (drop x row) ++ take 4 (drop (x + 4) row)
   eight_of_row x row = rw (← drop-drop 4 x row) (take-add 4 4 (drop x row))
 
@@ -144,7 +144,7 @@ module _ {T : Type 0} (value : T → ℕ) where
       eight_columns x (take 8 (drop y a)) (take 8 (drop y b)) (omega (arith, count a, count b, same))
       (reaches x y width a wide h) (reaches x y width1 b wide1 h1)
 
-  -- a window is its left half and its right half
+  -- A window consists of its left half and its right half.
   pub window_of_halves : (x y width width1 : ℕ) (a b : Table T) (left right both : PixelSums)
       → both ≡ added left right → left ≡ sums_of_rectangle value x y 4 8 a b
       → right ≡ sums_of_rectangle value (x + 4) y 4 8 a b
@@ -155,7 +155,7 @@ module _ {T : Type 0} (value : T → ℕ) where
       is ∙ ap (λ sums. added sums right) first ∙ ap (added (sums_of_rectangle value x y 4 8 a b)) second
       ∙ sym (sums_of_window x y width width1 a b wide wide1 h h1 same)
 
--- bounds of sums over two parts
+-- Bounds for the sums over two parts.
 pub added-over : (m n : ℕ) (s t : PixelSums) → AreSumsOver m s → AreSumsOver n t → AreSumsOver (m + n) (added s t)
 added-over m n s t one other = record {
   first = omega (arith, one.first, other.first);

@@ -1,4 +1,4 @@
--- Floats that are added from the first on: one more of them.
+-- Floats that are added from the first to the last: the loop step.
 use Rattle.std.proofs.Common.{ℕ, ◌≡◌, ◌+◌, ◌*◌, ◌≤◌, All, length, map, ap, sym, ◌∙◌, arith}
 use Rattle.std.specs.List.{fold, range_with_len}
 use Rattle.std.specs.Float.{float_zero}
@@ -18,7 +18,7 @@ total-more f at n =
     ap (total f) (map-range_with_len_more at 0 n n (omega arith))
     ∙ fold_push (add f) float_zero (map at (range_with_len 0 n)) (at n)
 
--- a sum of the first n, and the next one
+-- The sum of the first `n` floats, with the next float added.
 pub one_more : (f : Format) (at : ℕ → Float) (n : ℕ) (sum value : Float)
     → sum ≡ total f (map at (range_with_len 0 n)) → value ≡ at n
     → add f sum value ≡ total f (map at (range_with_len 0 (n + 1)))
@@ -27,7 +27,7 @@ one_more f at n sum value so_far is =
     ∙ ap (add f (total f (map at (range_with_len 0 n)))) is
     ∙ sym (total-more f at n)
 
--- one more value is added to those from number a on
+-- One more float is added to the sum of the floats from number `a` on.
 pub one_more_added : (f : Format) (at : ℕ → Float) (a n j : ℕ) (start sum value : Float) → a + n ≡ j
     → sum ≡ fold (add f) start (map at (range_with_len a n)) → value ≡ at j
     → add f sum value ≡ fold (add f) start (map at (range_with_len a (n + 1)))
@@ -36,7 +36,7 @@ one_more_added f at a n j start sum value e so_far is =
     ∙ ap (add f (fold (add f) start (map at (range_with_len a n)))) is
     ∙ sym (ap (fold (add f) start) (map-range_with_len_more at a n j e) ∙ fold_push (add f) start (map at (range_with_len a n)) (at j))
 
--- the first n windows of line y are added, and the columns of the next one's left half are summed
+-- The first `n` windows of line `y` are added, and the columns of the left half of the next window are summed.
 pub record LineSoFar {T : Type 0} (f : Format) (form : PixelForm T) (constants : SsimConstants) (a b : Table T)
     (y n : ℕ) (sum : Float) (half : PixelSums) : Type 0 where
   pub so_far : sum ≡ total f (map (λ x. window_at form constants a b x y) (range_with_len 0 n))
@@ -46,7 +46,7 @@ pub record LineSoFar {T : Type 0} (f : Format) (form : PixelForm T) (constants :
 module _ {T : Type 0} (f : Format) (form : PixelForm T) (constants : SsimConstants) (a b : Table T) (width width1 : ℕ)
     (wide : All (λ row. length row ≡ width) a) (wide1 : All (λ row. length row ≡ width1) b)
     (same : length a ≡ length b) where
-  -- one more window
+  -- One more window.
   pub one_more_window : (y n : ℕ) (sum value : Float) (left right both : PixelSums) → 4 * n + 8 ≤ width
       → 4 * n + 8 ≤ width1 → LineSoFar f form constants a b y n sum left
       → right ≡ sums_of_rectangle form.value (4 * n + 4) (4 * y) 4 8 a b → AreSumsOver 32 right

@@ -1,4 +1,4 @@
--- Functions that are the same at each item of a list.
+-- Functions that are equal at each item of a list.
 use Rattle.std.proofs.Common.{◌≡◌, List, [], ◌∷◌, map, refl}
 use Rattle.std.specs.Simd.Lanes.{Each1}
 

@@ -1,4 +1,4 @@
--- Differences of two lists of numbers as floats, from the gaps and their signs.
+-- Differences of two lists of numbers as floats, computed from their absolute values and signs.
 use Rattle.std.proofs.Common.{ℕ, ◌≡◌, ◌+◌, ◌-◌, ◌^◌, ◌%◌, ◌<◌, List, [], ◌∷◌, cond, ltb, leb, map, inl, inr, refl, ap, ◌∙◌, arith, true, false, Fits, w32}
 use Rattle.std.specs.Prelude.{pos, ◌-ℤ◌}
 use Rattle.std.specs.Int.{abs_diff}
@@ -17,7 +17,7 @@ single n = of_int binary32 (pos n)
 abbrev pub signed : ℕ → ℕ → Float
 signed a b = of_int binary32 (pos a -ℤ pos b)
 
--- the greater of two numbers less the smaller, as lanes of 32 bits have it
+-- The absolute difference of two numbers, computed in 32-bit lanes.
 abbrev gap : ℕ → ℕ → ℕ
 gap x y = (cond (ltb x y) y x + (2 ^ 32 - cond (ltb x y) x y)) % 2 ^ 32
 

@@ -1,4 +1,4 @@
--- Windows of blocks, and lines of them strip by strip.
+-- Windows of blocks, and lines of windows in vertical strips.
 use Rattle.std.proofs.Common.{ℕ, zero, suc, ◌≡◌, ◌+◌, ◌*◌, ◌≤◌, ◌<◌, All, length, map, refl, ap, sym, ◌∙◌, arith}
 use Rattle.std.specs.List.{fold, range_with_len}
 use Rattle.std.specs.Float.Ieee.{Float, Format, add}
@@ -18,7 +18,7 @@ use Rattle.v_frame_measures.proofs.Lines.{total-more}
 use Rattle.v_frame_measures.proofs.Mapped.{map_same}
 use Rattle.v_frame_measures.proofs.Windows.{each_of_range}
 
--- a sum of the first n, and m more
+-- The sum of the first `n` floats, with `m` more floats added.
 total_joined : (f : Format) (at : ℕ → Float) (n m : ℕ)
     → total f (map at (range_with_len 0 (n + m)))
     ≡ fold (add f) (total f (map at (range_with_len 0 n))) (map (λ i. at (n + i)) (range_with_len 0 m))
@@ -38,7 +38,7 @@ module _ {T : Type 0} (form : PixelForm T) (a b : Table T) (width width1 : ℕ)
     (same : length a ≡ length b) (n y count : ℕ) (h : 4 * n + 4 * count ≤ width) (h1 : 4 * n + 4 * count ≤ width1)
     (above below : BlockSums) (are : AreBlockSums form.value (4 * n) (4 * y) a b count above)
     (are1 : AreBlockSums form.value (4 * n) (4 * y + 4) a b count below) where
-  -- a block and the one below it
+  -- A block and the block below it.
   half_is : (k : ℕ) → k < count
       → added (block_at above k) (block_at below k) ≡ sums_of_rectangle form.value (4 * n + 4 * k) (4 * y) 4 8 a b
   half_is k few =
@@ -46,7 +46,7 @@ module _ {T : Type 0} (form : PixelForm T) (a b : Table T) (width width1 : ℕ)
       ∙ ap (added (sums_of_rectangle form.value (4 * n + 4 * k) (4 * y) 4 4 a b)) (are1 k few)
       ∙ sym (blocks_joined form.value width width1 a b wide wide1 same (4 * n + 4 * k) (4 * y) (omega (arith, h)) (omega (arith, h1)))
 
-  -- four blocks are a window
+  -- Four blocks form a window.
   pub window_is : (k : ℕ) → k + 1 < count
       → window_of above below k ≡ sums_of_rectangle form.value (4 * (n + k)) (4 * y) 8 8 a b
   window_is k few =
@@ -55,7 +55,7 @@ module _ {T : Type 0} (form : PixelForm T) (a b : Table T) (width width1 : ℕ)
       window_of_halves form.value (4 * (n + k)) (4 * y) width width1 a b _ _ (window_of above below k) refl
       (rw left at (half_is k (omega arith))) (rw right at (half_is (k + 1) few)) wide wide1 (omega (arith, h)) (omega (arith, h1)) same
 
-  -- the windows of a strip are added to those before it
+  -- The windows of a strip are added to the windows before it.
   pub strip_added : (f : Format) (constants : SsimConstants) (m : ℕ) → m + 1 ≡ count → (sum : Float)
       → sum ≡ total f (map (λ x. window_at form constants a b x y) (range_with_len 0 n))
       → fold (add f) sum (similarities_of constants above below 0 m)
@@ -67,7 +67,7 @@ module _ {T : Type 0} (form : PixelForm T) (a b : Table T) (width width1 : ℕ)
       (λ i few. ap (similarity_of constants) (window_is i (omega (arith, all)))) (each_of_range (λ i. i < m) 0 m (λ j from to. omega (arith, to))) in
       rw (so_far, alike) (sym (total_joined f at n m))
 
-  -- sums over a window of values that are not above 255, and of any
+  -- Bounds for the sums over a window, for values of at most 255 and for any values.
   pub are_of_bytes : (most : ℕ) → most < 256 → HasValuesUpTo form.value most a → HasValuesUpTo form.value most b
       → (k : ℕ) → k + 1 < count → AreSumsOfBytes (window_of above below k)
   are_of_bytes most few all all1 k inside =

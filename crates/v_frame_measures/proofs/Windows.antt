@@ -38,7 +38,7 @@ each_mapped P f a n each =
     let within : i < n = omega (arith, h, length-map-range_with_len f a n) in
     rw (get_or-map-range_with_len f a n i (a + i) (f 0) within refl) (each (a + i) (omega arith) (omega (arith, within))))
 
--- four numbers whose sum fits are added without a wrap
+-- Four numbers whose sum fits 32 bits are added without overflow.
 pub unwrapped : (above below : List ℕ) (j : ℕ) → window_sum above below j < 4294967296
     → plus (plus (slice_index above j) (slice_index below j)) (plus (slice_index above (j + 1)) (slice_index below (j + 1)))
     ≡ window_sum above below j

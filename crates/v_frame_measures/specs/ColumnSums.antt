@@ -1,4 +1,4 @@
--- Sums over columns of two pictures, of values that are below 8192.
+-- Sums over columns of two pictures with values below 8192.
 use Rattle.std.specs.Prelude.{ℕ, ◌≡◌, ◌+◌, ◌*◌, ◌≤◌, ◌<◌, List, All, drop, length, map, slice_index, take}
 use Rattle.v_frame.specs.Prelude.{Table, row_major}
 use Rattle.v_frame_measures.specs.declared.similarity.sums.PixelSums.{PixelSums}
@@ -18,18 +18,18 @@ module _ {T : Type 0} (value : T → ℕ) where
   abbrev pub HasValuesUpTo : ℕ → Table T → Type 0
   HasValuesUpTo most rows = All (IsUpTo most) rows
 
-  -- 32 pixels of a row
+  -- A part of a row with 32 pixels, whose values are below 8192.
   pub record IsNarrowPart (row : List T) : Type 0 where
     pub long : length row ≡ 32
     pub narrow : IsNarrow row
 
-  -- the sums over one column of some rows of two pictures
+  -- The sums over column `x` of the rows of two pictures.
   abbrev pub sums_of_column : ℕ → Table T → Table T → PixelSums
   sums_of_column x a b =
       sums_of value (row_major (map (λ row. take 1 (drop x row)) a))
       (row_major (map (λ row. take 1 (drop x row)) b))
 
-  -- these are the sums over 32 columns, from column x on
+  -- The entries of `sums` are the sums over 32 columns, from column `x` on.
   pub record AreColumnSums (x : ℕ) (a b : Table T) (sums : ColumnSums) : Type 0 where
     pub first : (k : ℕ) → k < 32 → slice_index sums.first k ≡ (sums_of_column (x + k) a b).first
     pub second : (k : ℕ) → k < 32 → slice_index sums.second k ≡ (sums_of_column (x + k) a b).second
@@ -38,19 +38,19 @@ module _ {T : Type 0} (value : T → ℕ) where
     pub products : (k : ℕ) → k < 32
         → slice_index sums.products k ≡ (sums_of_column (x + k) a b).products
 
--- four of them can be added
+-- All entries are so small that a sum of four fits 32 bits.
 pub record AreSmall (sums : ColumnSums) : Type 0 where
   pub first : (k : ℕ) → k < 32 → slice_index sums.first k ≤ 65536
   pub second : (k : ℕ) → k < 32 → slice_index sums.second k ≤ 65536
   pub squares : (k : ℕ) → k < 32 → slice_index sums.squares k < 1073741824
   pub products : (k : ℕ) → k < 32 → slice_index sums.products k < 1073741824
 
--- the sum of four numbers of a list, from number i on
+-- The sum of four adjacent items of a list, from index `i` on.
 abbrev pub four_of : List ℕ → ℕ → ℕ
 four_of xs i =
     slice_index xs i + slice_index xs (i + 1) + slice_index xs (i + 2) + slice_index xs (i + 3)
 
--- the sums over four columns
+-- The sums over a block of four columns, from column `4 * k` on.
 abbrev pub block_of : ColumnSums → ℕ → PixelSums
 block_of sums k =
     record {

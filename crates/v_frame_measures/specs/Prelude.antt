@@ -1,4 +1,4 @@
--- The words that callers' clauses cite, re-exported from one place.
+-- The definitions that contracts of other crates use, re-exported from one module.
 pub use Rattle.v_frame_measures.specs.Differences.{IsGreatestDifference, PixelsDifferAt}
 pub use Rattle.v_frame_measures.specs.Errors.{double, mean_error}
 pub use Rattle.v_frame_measures.specs.Frames.{frame_measure, measured, HasWindows, HaveOneSize}

@@ -1,4 +1,4 @@
--- Small cases worked out by hand. Each line computes: it is proved by `refl`.
+-- Small examples with results computed by hand. Each line is proved by computation (`refl`).
 use Rattle.std.specs.Prelude.{ℕ, ◌≡◌, [], ◌∷◌, replicate, false, pos, negsuc, refl}
 use Rattle.std.specs.Float.Ieee.{add, div, fin, mul, of_int}
 use Rattle.v_frame.specs.Prelude.{Table, one_byte}
@@ -7,14 +7,14 @@ use Rattle.v_frame_measures.specs.BlockSums.{window_of}
 use Rattle.v_frame_measures.specs.PixelSums.{sums_of_rectangle}
 use Rattle.v_frame_measures.specs.Ssim.{constants_of, peak_of, ssim_of, windows_along}
 
--- 0.01 and 0.03 of 255 and of 1023
+-- The constants for the peaks 255 and 1023.
 of_eight_bits : constants_of (peak_of 8) ≡ record { means = 416; variances = 235963 }
 of_eight_bits = refl
 
 of_ten_bits : constants_of (peak_of 10) ≡ record { means = 6698; variances = 3797644 }
 of_ten_bits = refl
 
--- beside each other stand one window, one, two
+-- The number of windows along 8, 11 and 12 pixels.
 one_window : windows_along 8 ≡ 1
 one_window = refl
 
@@ -30,7 +30,7 @@ ramp = (0 ∷ 1 ∷ 2 ∷ []) ∷ (3 ∷ 4 ∷ 5 ∷ []) ∷ []
 abbrev other_ramp : Table ℕ
 other_ramp = (0 ∷ 1 ∷ 2 ∷ []) ∷ (3 ∷ 4 ∷ 7 ∷ []) ∷ []
 
--- over the last two columns: 1, 2, 4, 5 and 1, 2, 4, 7
+-- The last two columns have the values 1, 2, 4, 5 and 1, 2, 4, 7.
 last_columns : sums_of_rectangle one_byte.value 1 0 2 2 ramp other_ramp
     ≡ record { first = 12; second = 14; squares = 116; products = 56 }
 last_columns = refl
@@ -38,17 +38,17 @@ last_columns = refl
 abbrev flat : ℕ → Table ℕ
 flat value = replicate 8 (replicate 8 value)
 
--- two pictures that are the same have the similarity 1
+-- Two equal pictures have the similarity 1.
 alike : ssim_of one_byte 255 (flat 7) (flat 7) ≡ fin false 1 (pos 0)
 unfolding add div mul of_int
 alike = refl
 
--- all black and all white: c / (255 * 255 * 64 * 64 + c) with c = 416, rounded to 24 digits
+-- A black and a white picture: c / (255 * 255 * 64 * 64 + c) with c = 416, rounded to 24 bits.
 black_and_white : ssim_of one_byte 255 (flat 0) (flat 255) ≡ fin false 6869295 (negsuc 41)
 unfolding add div mul of_int
 black_and_white = refl
 
--- two blocks below each other, and the two beside them
+-- Two rows of blocks, one under the other.
 abbrev above : BlockSums
 above =
     record {

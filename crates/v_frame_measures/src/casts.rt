@@ -1,9 +1,9 @@
-//! Whole numbers as the nearest floats, by exact halves: a cast that loses nothing is one instruction, and the sum
-//! rounds once.
+//! Conversions of integers to the nearest floating-point number. A number is split into two parts that convert exactly, each in
+//! one instruction, and their sum is rounded once.
 ghost use Rattle.std.specs.Prelude.{◌≡◌, ◌<◌, ◌≤◌, ◌-ℤ◌, ◌^◌, pos};
 ghost use Rattle.std.specs.Float.Ieee.{binary32, binary64, of_int};
 
-/// Returns the `f32` nearest to a number.
+/// Returns the `f32` nearest to `number`.
 #[inline(always)]
 pub(crate) fn nearest_f32(number: u64) -> f32
     requires { number < 2 ^ 48 }
@@ -12,7 +12,7 @@ pub(crate) fn nearest_f32(number: u64) -> f32
     ((number >> 24) as f32) * 16777216.0 + ((number & 0xff_ffff) as f32)
 }
 
-/// Returns the `f32` nearest to the difference of two numbers.
+/// Returns the `f32` nearest to `number - less`, which may be negative.
 #[inline(always)]
 pub(crate) fn nearest_f32_to_difference(number: u64, less: u64) -> f32
     requires number { number < 2 ^ 48 }
@@ -26,7 +26,7 @@ pub(crate) fn nearest_f32_to_difference(number: u64, less: u64) -> f32
     }
 }
 
-/// Returns the `f64` nearest to a number.
+/// Returns the `f64` nearest to `number`.
 pub(crate) fn nearest_f64(number: u128) -> f64
     requires { number < 2 ^ 106 }
     ensures { result ≡ of_int binary64 (pos number) }

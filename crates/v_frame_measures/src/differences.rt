@@ -1,4 +1,4 @@
-//! Differences of the values of two planes, place by place.
+//! Absolute differences between the pixels of two planes: the largest one, and the number above a threshold.
 ghost use Rattle.std.specs.Prelude.{◌≡◌, ◌<◌, ◌^◌, length, nat_lt};
 ghost use Rattle.std.specs.Int.{abs_diff};
 ghost use Rattle.v_frame.specs.Prelude.{height_of, row_major, table_of, width_of};
@@ -9,18 +9,19 @@ use crate::rows;
 use v_frame::pixel::Pixel;
 use v_frame::plane::{PlaneRef, RowsRef};
 
-/// The greatest difference of two planes, and the first place that has it.
+/// The largest absolute difference between the pixels of two planes, and the first position that has it.
 #[derive(Clone, Copy, Debug, PartialEq, Eq)]
 pub struct GreatestDifference {
-    /// How far the values there are apart.
+    /// The absolute difference of the two pixel values at this position.
     pub difference: u16,
-    /// The column, counted from 0.
+    /// The column of the position, counted from 0.
     pub x: usize,
-    /// The row, counted from 0.
+    /// The row of the position, counted from 0.
     pub y: usize,
 }
 
-/// Returns at how many places the values of two planes of one size are further apart than a threshold.
+/// Returns the number of visible pixels whose values differ by more than `threshold` between `a` and `b`. Both planes have the
+/// same size.
 pub fn count_above<T: Pixel>(a: &PlaneRef<'_, T>, b: &PlaneRef<'_, T>, threshold: u16) -> usize
     requires wide { a.now.geometry.width ≡ b.now.geometry.width }
     requires high { a.now.geometry.height ≡ b.now.geometry.height }
@@ -31,8 +32,9 @@ pub fn count_above<T: Pixel>(a: &PlaneRef<'_, T>, b: &PlaneRef<'_, T>, threshold
     rows::count_above(&a.as_rows_ref(), &b.as_rows_ref(), threshold)
 }
 
-/// Returns the greatest difference of the values of two planes of one size, and the first place that has it, row after
-/// row from the top.
+/// Returns the largest absolute difference between the visible pixels of `a` and `b`, and the first position that has it. Both
+/// planes have the same size. Positions are ordered from left to right within a row and from top to bottom. For equal planes
+/// the difference is 0 and the position is column 0 of row 0.
 pub fn greatest_difference<T: Pixel>(a: &PlaneRef<'_, T>, b: &PlaneRef<'_, T>) -> GreatestDifference
     requires wide { a.now.geometry.width ≡ b.now.geometry.width }
     requires high { a.now.geometry.height ≡ b.now.geometry.height }
@@ -41,7 +43,7 @@ pub fn greatest_difference<T: Pixel>(a: &PlaneRef<'_, T>, b: &PlaneRef<'_, T>) -
     greatest_difference_of_rows(&a.as_rows_ref(), &b.as_rows_ref())
 }
 
-/// Returns the greatest difference of two pictures of one size.
+/// Returns the largest absolute difference between two pictures of the same size.
 pub(crate) fn greatest_difference_of_rows<T: Pixel>(
     a: &RowsRef<'_, T>,
     b: &RowsRef<'_, T>,
@@ -69,7 +71,8 @@ pub(crate) fn greatest_difference_of_rows<T: Pixel>(
     found
 }
 
-/// Returns the greatest difference of two rows. It is kept as a pixel, so that those of bytes are compared as bytes.
+/// Returns the largest absolute difference between two rows of the same length. It is computed as a pixel, so that bytes are
+/// compared as bytes.
 fn greatest_of_rows<T: Pixel>(row: &[T], other: &[T]) -> u16
     requires some { 0 < length row.now }
     requires same { length other.now ≡ length row.now }
@@ -86,7 +89,7 @@ fn greatest_of_rows<T: Pixel>(row: &[T], other: &[T]) -> u16
     greatest.into_u16()
 }
 
-/// Returns the pixel whose value is how far those of two others are apart.
+/// Returns the pixel whose value is the absolute difference of `p` and `q`.
 #[inline(always)]
 fn pixel_of_difference<T: Pixel>(p: T, q: T) -> T
     ensures { T.form.value result ≡ abs_diff (T.form.value p) (T.form.value q) }
@@ -94,7 +97,7 @@ fn pixel_of_difference<T: Pixel>(p: T, q: T) -> T
     T::from_value(difference_of(p, q))
 }
 
-/// Returns the first index at which two rows have a difference.
+/// Returns the first index at which two rows have this absolute difference.
 fn first_place<T: Pixel>(row: &[T], other: &[T], difference: u16) -> usize
     requires same { length other.now ≡ length row.now }
     requires there { DifferSomewhere T.form.value row.now other.now difference }
@@ -108,7 +111,7 @@ fn first_place<T: Pixel>(row: &[T], other: &[T], difference: u16) -> usize
     0
 }
 
-/// Returns how far the values of two pixels are apart.
+/// Returns the absolute difference of the values of two pixels.
 #[inline(always)]
 pub(crate) fn difference_of<T: Pixel>(p: T, q: T) -> u16
     ensures value { result ≡ abs_diff (T.form.value p) (T.form.value q) }

@@ -1,4 +1,4 @@
-//! Two frames: a measure of each plane, and one of all planes together.
+//! Measures of two frames: one for each plane, and one for all planes together.
 ghost use Rattle.std.specs.Prelude.{◌≡◌, ◌+◌, ◌*◌, ◌≤◌, ◌<◌, ◌^◌, ◌↔◌, IfSome, IsSome, IsTrue, option_map};
 ghost use Rattle.std.specs.Int.NonZero.{non_zero_u8_get};
 ghost use Rattle.v_frame.specs.Prelude.{table_of, tables_of};
@@ -13,27 +13,27 @@ use v_frame::frame::Frame;
 use v_frame::pixel::Pixel;
 use v_frame::plane::Plane;
 
-/// A measure of two frames: of each plane, and of all planes together.
+/// A measure of two frames: its value for each plane, and its mean over all planes.
 #[derive(Clone, Copy)]
 pub struct FrameMeasure {
-    /// That of luma.
+    /// The value for the luma plane.
     pub y: f64,
-    /// That of the first chroma plane, where there is one.
+    /// The value for the first chroma plane, or `None` if the frames have none.
     pub u: Option<f64>,
-    /// That of the second chroma plane, where there is one.
+    /// The value for the second chroma plane, or `None` if the frames have none.
     pub v: Option<f64>,
-    /// The mean of these, each weighed by the pixels of its plane.
+    /// The mean of the values of all planes, weighted by the number of pixels of each plane.
     pub all: f64,
 }
 
-/// How many pixels a plane has, and a measure of it.
+/// A measure of two planes, with the number of pixels of one of them.
 #[derive(Clone, Copy)]
 pub(crate) struct CountedMeasure {
     pixels: u64,
     value: f64,
 }
 
-/// Returns whether both frames have the same planes, each of the same size.
+/// Returns whether `a` and `b` have the same planes, each plane with the same width and height in both frames.
 pub fn frames_have_one_size<T: Pixel>(a: &Frame<T>, b: &Frame<T>) -> bool
     ensures { IsTrue result ↔ HaveOneSize (tables_of a.now) (tables_of b.now) }
 {
@@ -42,14 +42,15 @@ pub fn frames_have_one_size<T: Pixel>(a: &Frame<T>, b: &Frame<T>) -> bool
         && a.v_plane.as_ref().map(size_of_plane) == b.v_plane.as_ref().map(size_of_plane)
 }
 
-/// Returns the width and the height of a plane.
+/// Returns the width and the height of a plane in pixels.
 fn size_of_plane<T: Pixel>(plane: &Plane<T>) -> (usize, usize)
     ensures { result ≡ size_of (table_of plane.now) }
 {
     (plane.width(), plane.height())
 }
 
-/// Returns the mean squared errors of two frames whose planes have one size.
+/// Returns the mean squared error (MSE) of each plane of two frames, and their mean weighted by pixels. Each plane has the same
+/// size in both frames, as [`frames_have_one_size`] tests.
 pub fn frame_mean_squared_error<T: Pixel>(a: &Frame<T>, b: &Frame<T>) -> FrameMeasure
     requires { HaveOneSize (tables_of a.now) (tables_of b.now) }
     ensures { result ≡ measured (mean_error T.form.value) (tables_of a.now) (tables_of b.now) }
@@ -60,8 +61,12 @@ pub fn frame_mean_squared_error<T: Pixel>(a: &Frame<T>, b: &Frame<T>) -> FrameMe
     joined(y, u, v)
 }
 
-/// Returns the structural similarities of two frames whose planes have one size, at the depth of the first. `None`
-/// exactly where a plane of the first is smaller than a window.
+/// Returns the structural similarity (SSIM) of each plane of two frames, and their mean weighted by pixels. It uses the bit
+/// depth of `a`. Each plane has the same size in both frames, as [`frames_have_one_size`] tests.
+///
+/// The weights of the mean are rounded to `f64`, so the mean of two equal frames may differ from 1 in the last digit.
+///
+/// Returns `None` if and only if a plane of `a` is narrower or lower than 8 pixels, the size of a window.
 pub fn frame_ssim<T: Pixel>(a: &Frame<T>, b: &Frame<T>) -> Option<FrameMeasure>
     requires { HaveOneSize (tables_of a.now) (tables_of b.now) }
     ensures some { IsSome result ↔ HaveWindows (tables_of a.now) }
@@ -79,7 +84,7 @@ pub fn frame_ssim<T: Pixel>(a: &Frame<T>, b: &Frame<T>) -> Option<FrameMeasure>
     Some(joined(y, u, v))
 }
 
-/// Returns whether each plane has room for a window of 8 by 8 pixels.
+/// Returns whether each plane of the frame is at least 8 by 8 pixels, the size of a window.
 fn have_windows<T: Pixel>(frame: &Frame<T>) -> bool
     ensures { IsTrue result ↔ HaveWindows (tables_of frame.now) }
 {
@@ -88,14 +93,14 @@ fn have_windows<T: Pixel>(frame: &Frame<T>) -> bool
         && chroma_has_windows(&frame.v_plane)
 }
 
-/// Returns whether a plane has room for a window.
+/// Returns whether the plane is at least 8 by 8 pixels, the size of a window.
 fn has_windows<T: Pixel>(plane: &Plane<T>) -> bool
     ensures { IsTrue result ↔ HasWindows (table_of plane.now) }
 {
     plane.width() >= 8 && plane.height() >= 8
 }
 
-/// Returns the same of a chroma plane, where it is there.
+/// Returns whether the chroma plane is missing or at least 8 by 8 pixels.
 fn chroma_has_windows<T: Pixel>(plane: &Option<Plane<T>>) -> bool
     ensures { IsTrue result ↔ IfSome (option_map table_of plane.now) HasWindows }
 {
@@ -105,7 +110,7 @@ fn chroma_has_windows<T: Pixel>(plane: &Option<Plane<T>>) -> bool
     }
 }
 
-/// Returns the mean squared error of two planes of one size.
+/// Returns the mean squared error of two planes of the same size, with their number of pixels.
 fn counted_error<T: Pixel>(a: &Plane<T>, b: &Plane<T>) -> CountedMeasure
     requires { size_of (table_of a.now) ≡ size_of (table_of b.now) }
     ensures { result ≡ counted (mean_error T.form.value) (table_of a.now) (table_of b.now) }
@@ -120,7 +125,7 @@ fn counted_error<T: Pixel>(a: &Plane<T>, b: &Plane<T>) -> CountedMeasure
     }
 }
 
-/// Returns that of two chroma planes, where they are there.
+/// Returns the mean squared error of two chroma planes of the same size, or `None` if they are missing.
 fn counted_error_of_chroma<T: Pixel>(
     a: &Option<Plane<T>>,
     b: &Option<Plane<T>>,
@@ -136,7 +141,7 @@ fn counted_error_of_chroma<T: Pixel>(
     }
 }
 
-/// Returns the structural similarity of two planes of one size.
+/// Returns the structural similarity of two planes of the same size, with their number of pixels.
 fn counted_ssim<T: Pixel>(a: &Plane<T>, b: &Plane<T>, bit_depth: u8) -> CountedMeasure
     requires size { size_of (table_of a.now) ≡ size_of (table_of b.now) }
     requires room { HasWindows (table_of a.now) }
@@ -153,7 +158,7 @@ fn counted_ssim<T: Pixel>(a: &Plane<T>, b: &Plane<T>, bit_depth: u8) -> CountedM
     }
 }
 
-/// Returns that of two chroma planes, where they are there.
+/// Returns the structural similarity of two chroma planes of the same size, or `None` if they are missing.
 fn counted_ssim_of_chroma<T: Pixel>(
     a: &Option<Plane<T>>,
     b: &Option<Plane<T>>,
@@ -171,7 +176,7 @@ fn counted_ssim_of_chroma<T: Pixel>(
     }
 }
 
-/// Returns the measures of the planes, and the mean of all.
+/// Returns the measures of the planes with their mean, weighted by pixels.
 fn joined(y: CountedMeasure, u: Option<CountedMeasure>, v: Option<CountedMeasure>) -> FrameMeasure
     ensures { result ≡ frame_measure y u v }
 {
@@ -185,7 +190,7 @@ fn joined(y: CountedMeasure, u: Option<CountedMeasure>, v: Option<CountedMeasure
     }
 }
 
-/// Returns how many pixels a plane has, 0 where it is not there.
+/// Returns the number of pixels of a plane, or 0 if it is missing.
 fn pixels_of(plane: Option<CountedMeasure>) -> u128
     ensures value { result ≡ pixels_counted plane }
     ensures bound { result < 2 ^ 64 }
@@ -196,7 +201,7 @@ fn pixels_of(plane: Option<CountedMeasure>) -> u128
     }
 }
 
-/// Returns the measure of a plane that is there.
+/// Returns the measure of a plane, or `None` if it is missing.
 fn value_of(plane: Option<CountedMeasure>) -> Option<f64>
     ensures { result ≡ option_map (λ plane. plane.value) plane }
 {
@@ -206,7 +211,7 @@ fn value_of(plane: Option<CountedMeasure>) -> Option<f64>
     }
 }
 
-/// Returns a sum with the share of a plane that is there: its measure times its part of all pixels.
+/// Adds the share of a plane to `sum`: its measure, multiplied by its pixels divided by `all`. A missing plane adds nothing.
 fn with_share(sum: f64, plane: Option<CountedMeasure>, all: f64) -> f64
     ensures { result ≡ share_added all sum plane }
 {

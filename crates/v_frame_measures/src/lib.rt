@@ -1,12 +1,12 @@
-//! How far two pictures are apart, as numbers: the structural similarity (SSIM), the mean squared error, the peak
-//! signal-to-noise ratio (PSNR), the greatest difference, and how many pixels differ by more than a threshold.
+//! Quality measures for two pictures of the same size: the structural similarity (SSIM), the mean squared error (MSE), the peak
+//! signal-to-noise ratio (PSNR), the largest absolute difference, and the number of pixels that differ by more than a
+//! threshold.
 //!
-//! Each is of what planes show, without their borders, and of two planes or frames of one size. [`ssim`] and
-//! [`frame_ssim`] give the numbers of FFmpeg's filter `ssim`, digit for digit, as its C code computes them in one
-//! thread: `Rattle.v_frame_measures.specs.Ssim` has the order of its roundings. [`psnr`] gives those of its filter
-//! `psnr`.
+//! All measures read the visible pixels of planes or frames and ignore the padding. [`ssim`] and [`frame_ssim`] return exactly
+//! the numbers that FFmpeg's filter `ssim` computes with its C code in one thread. [`psnr`] returns the numbers of FFmpeg's
+//! filter `psnr`. The order of the roundings of SSIM is defined in `Rattle.v_frame_measures.specs.Ssim`.
 //!
-//! MS-SSIM, PSNR-HVS and CIEDE2000 are left out, since there was nothing to compare their digits with.
+//! MS-SSIM, PSNR-HVS and CIEDE2000 are not included, because no reference was available to compare their digits with.
 #![tactic(auto)]
 
 mod casts;

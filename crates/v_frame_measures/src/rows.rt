@@ -1,4 +1,4 @@
-//! The same measures of pictures whose rows are in a buffer.
+//! The measures for pictures whose rows are in a buffer outside a plane.
 ghost use Rattle.std.specs.Prelude.{◌≡◌, ◌≤◌, ◌↔◌, IfSome, IsSome, nat_lt};
 ghost use Rattle.std.specs.Int.{abs_diff};
 ghost use Rattle.v_frame.specs.Prelude.{height_of, row_major, width_of};
@@ -14,8 +14,9 @@ use v_frame::pixel::Pixel;
 use v_frame::plane::RowsRef;
 use v_frame_statistics::rows::count_pairs;
 
-/// Returns the mean squared error of two pictures of one size: the sum of the squares of the differences of their pixels
-/// over how many there are, each rounded to the nearest `f64`.
+/// Returns the mean squared error (MSE) of two pictures of the same size: the sum of the squared differences of their pixels,
+/// divided by the number of pixels. The sum is exact. The sum and the number of pixels are each rounded to the nearest `f64`,
+/// and so is the quotient.
 pub fn mean_squared_error<T: Pixel>(a: &RowsRef<'_, T>, b: &RowsRef<'_, T>) -> f64
     requires wide { width_of a.now ≡ width_of b.now }
     requires high { height_of a.now ≡ height_of b.now }
@@ -24,9 +25,11 @@ pub fn mean_squared_error<T: Pixel>(a: &RowsRef<'_, T>, b: &RowsRef<'_, T>) -> f
     mean_squared_error_of_rows(a, b)
 }
 
-/// Returns the structural similarity (SSIM) of two pictures of one size, at so many bits of a sample, at most 16.
+/// Returns the structural similarity (SSIM) of two pictures of the same size whose samples have `bit_depth` bits. A `bit_depth`
+/// above 16 counts as 16.
 ///
-/// `None` exactly where a side is below 8: no window stands there.
+/// The result is the mean over windows of 8 by 8 pixels at every fourth column and row. Returns `None` if and only if the width
+/// or the height is below 8.
 pub fn ssim<T: Pixel>(a: &RowsRef<'_, T>, b: &RowsRef<'_, T>, bit_depth: u8) -> Option<f64>
     requires wide { width_of a.now ≡ width_of b.now }
     requires high { height_of a.now ≡ height_of b.now }
@@ -39,8 +42,8 @@ pub fn ssim<T: Pixel>(a: &RowsRef<'_, T>, b: &RowsRef<'_, T>, bit_depth: u8) -> 
     Some(mean_similarity(a, b, bit_depth))
 }
 
-/// Returns the greatest difference of the values of two pictures of one size, and the first place that has it, row after
-/// row from the top.
+/// Returns the largest absolute difference between the pixels of `a` and `b`, and the first position that has it. Both pictures
+/// have the same size. Positions are ordered from left to right within a row and from top to bottom.
 pub fn greatest_difference<T: Pixel>(a: &RowsRef<'_, T>, b: &RowsRef<'_, T>) -> GreatestDifference
     requires wide { width_of a.now ≡ width_of b.now }
     requires high { height_of a.now ≡ height_of b.now }
@@ -49,7 +52,8 @@ pub fn greatest_difference<T: Pixel>(a: &RowsRef<'_, T>, b: &RowsRef<'_, T>) -> 
     greatest_difference_of_rows(a, b)
 }
 
-/// Returns at how many places the values of two pictures of one size are further apart than a threshold.
+/// Returns the number of pixels whose values differ by more than `threshold` between `a` and `b`. Both pictures have the same
+/// size.
 pub fn count_above<T: Pixel>(a: &RowsRef<'_, T>, b: &RowsRef<'_, T>, threshold: u16) -> usize
     requires wide { width_of a.now ≡ width_of b.now }
     requires high { height_of a.now ≡ height_of b.now }

@@ -1,4 +1,4 @@
-//! The structural similarity of two pictures.
+//! The structural similarity (SSIM) of two pictures.
 ghost use Rattle.std.specs.Prelude.{◌≡◌, ◌+◌, ◌-◌, ◌*◌, ◌/◌, ◌<◌, ◌≤◌, ◌↔◌, ◌^◌, IfSome, IsSome, length, min};
 ghost use Rattle.v_frame.specs.Prelude.{height_of, table_of, width_of};
 ghost use Rattle.v_frame_measures.specs.Ssim.{line_format, line_of, peak_of, ssim_of};
@@ -22,10 +22,14 @@ use v_frame::pixel::Pixel;
 use v_frame::plane::{PlaneRef, RowsRef};
 use window::{SsimConstants, similarity};
 
-/// Returns the structural similarity (SSIM) of two planes of one size, at so many bits of a sample, at most 16.
+/// Returns the structural similarity (SSIM, Wang et al. 2004) of two planes of the same size whose samples have `bit_depth`
+/// bits. A `bit_depth` above 16 counts as 16.
 ///
-/// It is the mean over windows of 8 by 8 pixels at every fourth column and row. `None` exactly where a side is below 8:
-/// no window stands there, and FFmpeg divides by zero, or says 0.
+/// The function follows FFmpeg's filter `ssim`: the result is the mean over windows of 8 by 8 pixels at every fourth column and
+/// row, and all pixels of a window have the same weight.
+///
+/// Returns `None` if and only if the width or the height is below 8, because no window fits. For these sizes FFmpeg divides by
+/// zero or prints 0.
 pub fn ssim<T: Pixel>(a: &PlaneRef<'_, T>, b: &PlaneRef<'_, T>, bit_depth: u8) -> Option<f64>
     requires wide { a.now.geometry.width ≡ b.now.geometry.width }
     requires high { a.now.geometry.height ≡ b.now.geometry.height }
@@ -37,7 +41,7 @@ pub fn ssim<T: Pixel>(a: &PlaneRef<'_, T>, b: &PlaneRef<'_, T>, bit_depth: u8) -
     rows::ssim(&a.as_rows_ref(), &b.as_rows_ref(), bit_depth)
 }
 
-/// Returns the mean over the windows of two pictures of one size.
+/// Returns the mean similarity over the windows of two pictures of the same size, which are at least 8 by 8 pixels.
 pub(crate) fn mean_similarity<T: Pixel>(
     a: &RowsRef<'_, T>,
     b: &RowsRef<'_, T>,
@@ -56,7 +60,8 @@ pub(crate) fn mean_similarity<T: Pixel>(
     }
 }
 
-/// Returns the mean, with each line added in these floats, for which there is room.
+/// Returns the mean similarity over the windows, with the windows of a line added as numbers of the type `F`. `sums` holds the
+/// sums of up to 32 lines in between.
 fn mean_in<T: Pixel, F: LineSum>(
     a: &RowsRef<'_, T>,
     b: &RowsRef<'_, T>,
@@ -90,7 +95,7 @@ fn mean_in<T: Pixel, F: LineSum>(
     sum / nearest_u64_to_f64((across * down) as u64)
 }
 
-/// Returns the sum over a line of windows, added in these floats.
+/// Returns the sum of the similarities over line `y` of windows, added as numbers of the type `F`.
 fn line_in<T: Pixel, F: LineSum>(
     a: &RowsRef<'_, T>,
     b: &RowsRef<'_, T>,
@@ -106,7 +111,7 @@ fn line_in<T: Pixel, F: LineSum>(
     ensures { F.float result ≡ line_of T.form constants.now a.now b.now F.format y }
 {
     let columns = a.width();
-    // What the clauses of these calls say is the proof.
+    // These calls are needed only for their contracts, which the proof uses.
     let _other = b.width();
     let _height = a.height();
     let mut sum = F::zero();

@@ -1,5 +1,5 @@
--- A list whose items became results of a function is the function over the list, and a table whose
--- rows became such rows is one whose pixels became results.
+-- If each item of a list is the result of a function for the old item, the list is `map` of this function. The same
+-- holds for the rows of a table and for its pixels.
 use Rattle.std.proofs.Common.{ℕ, suc, ◌≡◌, List, [], ◌∷◌, map, Option, Some, None, option_and_then, slice_get, refl, ap}
 use Rattle.std.proofs.Common.{◌∙◌, ◌<◌, All, length, arith}
 use Rattle.std.proofs.lemmas.Option.{slice_get_within, get_or_from_slice_get}
@@ -10,13 +10,13 @@ use Rattle.v_frame.specs.Prelude.{Table, pixel_at}
 use Rattle.v_frame_ops.specs.Change.{combined, MapsPixels, CombinesPixels}
 use Rattle.v_frame_ops.specs.Rows.{MapsItems, CombinesItems}
 
--- the row that has a pixel
+-- The row that contains a pixel of a table.
 pub found_row : {T : Type 0} (x : ℕ) (p : T) (o : Option (List T)) → option_and_then (λ row. slice_get row x) o ≡ Some p
     → (row : List T) × (o ≡ Some row) × (slice_get row x ≡ Some p)
 found_row x p None h = absurd (let no : None ≡ Some p = h in cc)
 found_row x p (Some row) h = (row, refl, h)
 
--- a pixel that is there lies in a row and a column
+-- The row and the column of a pixel of a table are inside its size.
 pub pixel_within : {T : Type 0} (rows : Table T) (width x y : ℕ) (p : T) → All (λ row. length row ≡ width) rows
     → pixel_at rows x y ≡ Some p → (x < width) × (y < length rows)
 pixel_within rows width x y p wide h =
@@ -25,7 +25,7 @@ pixel_within rows width x y p wide h =
     let long = wide y row.0 (slice_get_within rows y row.0 row.1) in
     (omega (arith, ap length (get_or_from_slice_get rows y row.0 row.0 row.1)), slice_get_within rows y row.0 row.1)
 
--- a pixel of two tables combined
+-- The pixel of two combined tables at one position.
 pub combined_pixel : {T : Type 0} (g : T → T → T) (old other : Table T) (x y : ℕ) (p q : T) → pixel_at old x y ≡ Some p
     → pixel_at other x y ≡ Some q → pixel_at (combined (combined g) old other) x y ≡ Some (g p q)
 combined_pixel g old other x y p q h i =

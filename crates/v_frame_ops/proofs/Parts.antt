@@ -1,4 +1,4 @@
--- A part of the rows of a buffer written from one of its entries on: what is shown there, and what stays.
+-- Writes into a rectangle of the rows of a buffer: the pixels that change, and the pixels that stay unchanged.
 use Rattle.std.proofs.Common.{ℕ, ◌≡◌, ◌≢◌, ◌+◌, ◌-◌, ◌*◌, ◌<◌, ◌≤◌, ◌⊎◌, List, ◌++◌, length, take, drop, slice_get}
 use Rattle.std.proofs.Common.{inl, inr, refl, sym, ◌∙◌, ap, arith, length-take-le, length-drop, length-append, ⊎_elim}
 use Rattle.std.proofs.Common.{option_and_then}
@@ -11,14 +11,14 @@ use Rattle.v_frame_raster.proofs.tables.Parts.{slice_get-front, slice_get-back}
 use Rattle.v_frame_raster.proofs.tables.Places.{no_pixel_below, no_pixel_beside}
 use Rattle.v_frame_raster.proofs.tables.Strides.{AreRows, height_is, width_is, part_begins, part_fits, rows_are_wide, strided_row}
 
--- a pixel of rows is an entry
+-- A pixel of the rows is an entry of the buffer.
 entry_of : {T : Type 0} (width height stride : ℕ) (xs : List T) (x y : ℕ) → width ≤ stride → x < width → y < height
     → pixel_at (strided_rows width height stride xs) x y ≡ slice_get xs (stride * y + x)
 entry_of width height stride xs x y apart across down =
     ap (option_and_then (λ row. slice_get row x)) (strided_row width height stride xs y apart down)
     ∙ slice_get-take width (drop (stride * y) xs) x across ∙ slice_get-drop (stride * y) xs x
 
--- rows of a buffer, and a rectangle inside them
+-- The rows of a buffer, and a rectangle inside them.
 pub record IsPart (width height stride x y w h entries : ℕ) : Type 0 where
   pub fit : RowsFit width height stride entries
   pub wide : 0 < w
@@ -53,7 +53,8 @@ module _ {T : Type 0} (width height stride x y w h : ℕ) (old : List T)
   pub begins : origin ≤ length old
   begins = part_begins known is_inside
 
-  -- an entry of the rectangle, from its first one on, and in the whole buffer
+  -- The index of a pixel of the rectangle, counted from the first entry of the rectangle and from the first entry of
+  -- the buffer.
   place_is : (i j : ℕ) → stride * (y + j) + (x + i) ≡ origin + (stride * j + i)
   place_is i j = omega arith
 
@@ -95,7 +96,7 @@ module _ {T : Type 0} (width height stride x y w h : ℕ) (old : List T)
         ∙ ap (slice_get written) there ∙ slice_get-back (take origin old) new (stride * j + i)
         ∙ sym (entry_of w h stride new i j fits_behind.apart across down)
 
-    -- two pixels of the rows at one entry are one
+    -- Two pixels with the same entry have the same column and row.
     apart : (i j i' j' : ℕ) → i < width → i' < w → stride * j + i ≡ stride * (y + j') + (x + i')
         → (j ≡ y + j') × (i ≡ x + i')
     apart i j i' j' across across' e =
@@ -115,7 +116,8 @@ module _ {T : Type 0} (width height stride x y w h : ℕ) (old : List T)
     known_written : AreRows width height stride written (strided_rows width height stride written)
     known_written = record { is = refl; fit = rw (as_long) part.fit }
 
-    -- past the rows there is no pixel, before and after
+    -- Pixels outside the rectangle are unchanged. Outside the rows there is no pixel, neither before nor after the
+    -- write.
     pub kept_beside : (i j : ℕ) → ((i < x) ⊎ (x + w ≤ i)) ⊎ ((j < y) ⊎ (y + h ≤ j))
         → pixel_at (strided_rows width height stride written) i j ≡ pixel_at (strided_rows width height stride old) i j
     kept_beside i j outside = elim (cases_lt i width) [

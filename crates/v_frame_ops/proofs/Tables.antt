@@ -1,6 +1,5 @@
--- Tables of one size that agree pixel by pixel are equal, and the pixels of a rectangle are those of its table. And
--- loops
--- over rows: that move pixels within them, write them into a table, or compare them.
+-- Two tables of the same size are equal if they are equal pixel by pixel, and the pixels of a rectangle are pixels of
+-- its table. The file also has lemmas for loops over rows that move pixels, write a table, or compare two tables.
 use Rattle.std.proofs.Common.{ℕ, zero, suc, ◌≡◌, ◌≢◌, ◌+◌, ◌<◌, ◌≤◌, ◌⊎◌, All, List, [], ◌∷◌, length, take, drop}
 use Rattle.std.proofs.Common.{slice_get}
 use Rattle.std.proofs.Common.{Option, Some, None, option_map, option_and_then, refl, sym, ◌∙◌, ap, ⊎_elim, arith}
@@ -13,9 +12,8 @@ use Rattle.v_frame_ops.specs.Compare.{SameBelow, DifferFirstAt, IsFirstDifferenc
 use Rattle.v_frame_ops.specs.Rows.{HoldsPixelsFrom}
 use borrow.Author.Count.{below_more}
 
--- the rows of a table from one on and in front of another have the pixels that they had in other columns, and the rows
--- after are
--- as they were
+-- Each row from `top` on, below row `y`, has the pixels that it had before in the columns `from x`. The rows from `y`
+-- on are unchanged.
 pub record MovedBelow {T : Type 0} (from : ℕ → ℕ) (width top : ℕ) (old now : Table T) (y : ℕ) : Type 0 where
   pub inside : (k : ℕ) → k < y → (x : ℕ) → x < width → top ≤ k → pixel_at now x k ≡ pixel_at old (from x) k
   pub others : (k : ℕ) → y ≤ k → slice_get now k ≡ slice_get old k
@@ -36,7 +34,7 @@ module _ {T : Type 0} where
     others = λ k h. others k (omega arith) ∙ so_far.others k (omega arith);
   }
 
-  -- where a row is replaced by one that moves a pixel, the table has that pixel there
+  -- If a row is replaced by a row with a pixel moved, the table has this pixel at its new position.
   pub pixel_is_moved : (old : Table T) (x y from : ℕ) (row new : List T) → slice_get old y ≡ Some row → slice_get new x
       ≡ slice_get row from
       → pixel_at (set old y new) x y ≡ pixel_at old from y
@@ -44,7 +42,7 @@ module _ {T : Type 0} where
       ap (option_and_then (λ r. slice_get r x)) (slice_get-set_same old y row new new is refl) ∙ same
       ∙ sym (ap (option_and_then (λ r. slice_get r from)) is)
 
-  -- where a row is replaced by one that keeps its pixel of a column, the table keeps all pixels of that column
+  -- If a row is replaced by a row with the same pixel in one column, no pixel of the table in this column changes.
   pub pixel_is_kept : (old : Table T) (x y : ℕ) (row new : List T) → slice_get old y ≡ Some row → slice_get new x ≡
       slice_get row x
       → (k : ℕ) → pixel_at (set old y new) x k ≡ pixel_at old x k
@@ -55,7 +53,7 @@ module _ {T : Type 0} where
   pixel_is_kept (first ∷ old) x (suc y) row new is same zero = refl
   pixel_is_kept (first ∷ old) x (suc y) row new is same (suc k) = pixel_is_kept old x y row new is same k
 
-  -- the rows of one number in two tables
+  -- Row `y` of two tables that are equal above it.
   module _ (table other : Table T) (y : ℕ) (row beside : List T) (is : slice_get table y ≡ Some row)
       (is_beside : slice_get other y ≡ Some beside)
       (above : (i j : ℕ) → j < y → pixel_at table i j ≡ pixel_at other i j) where
@@ -86,7 +84,7 @@ module _ {T : Type 0} where
     pixel_of_part None = refl
     pixel_of_part (Some row) = slice_get-take width (drop x row) i across ∙ slice_get-drop x row i
 
-  -- the pixels of a rectangle are those of the table, counted from its corner
+  -- The pixels of a rectangle are pixels of the table, counted from the corner of the rectangle.
   pub rectangle_holds : (rows : Table T) (x y width height : ℕ) → HoldsPixelsFrom rows x y width height
       (rectangle x y width height rows)
   rectangle_holds rows x y width height = λ i j across down.

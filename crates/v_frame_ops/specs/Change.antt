@@ -1,25 +1,29 @@
--- Rows and tables whose pixels were changed one by one, and two that were combined into one.
+-- Changes of the pixels of a row or a table: map each one, or combine each one with a pixel of
+-- another row or table.
 use Rattle.std.specs.Prelude.{ℕ, ◌≡◌, List, map, Some}
 use Rattle.std.specs.List.{zip}
 use Rattle.v_frame.specs.Prelude.{Table, pixel_at}
 
--- the pixels of a row changed by a function, or, by that, the rows of a table
+-- `mapped change xs` applies `change` to each item of `xs`. Applied twice, it maps the pixels of a
+-- table.
 abbrev pub mapped : {X : Type 0} → (X → X) → List X → List X
 mapped change xs = map change xs
 
--- the pixels of two rows combined one by one, or, by that, the rows of two tables
+-- `combined make xs ys` applies `make` to the items of `xs` and `ys` at the same index. Applied
+-- twice, it combines the pixels of two tables.
 abbrev pub combined : {X : Type 0} → (X → X → X) → List X → List X → List X
 combined make xs ys = map (λ pair. make pair.0 pair.1) (zip xs ys)
 
 module _ {T : Type 0} where
-  -- each pixel of a table became one that is given at it
+  -- Each pixel `p` of `old` became a pixel `q` of `new` at the same position, for which `gives p q`
+  -- holds.
   abbrev pub MapsPixels : (T → T → Type 0) → Table T → Table T → Type 0
   MapsPixels gives old new =
       (x y : ℕ) (p : T) → pixel_at old x y ≡ Some p
       → (q : T) × gives p q × (pixel_at new x y ≡ Some q)
 
-  -- each pixel of a table became one that is given at it and at the one of the same column and row
-  -- of another
+  -- Each pixel `p` of `old` and the pixel `q` of `other` at the same position became a pixel `r` of
+  -- `new` at that position, for which `gives p q r` holds.
   abbrev pub CombinesPixels : (T → T → T → Type 0) → Table T → Table T → Table T → Type 0
   CombinesPixels gives old other new =
       (x y : ℕ) (p q : T) → pixel_at old x y ≡ Some p → pixel_at other x y ≡ Some q

@@ -1,4 +1,4 @@
--- The words that callers' clauses cite, re-exported from one place.
+-- The definitions that contracts of other crates use, re-exported from one module.
 pub use Rattle.v_frame_ops.specs.Border.{nearest, IsPadded}
 pub use Rattle.v_frame_ops.specs.Change.{mapped, combined, MapsPixels, CombinesPixels}
 pub use Rattle.v_frame_ops.specs.Compare.{IsFirstDifference}

@@ -1,4 +1,5 @@
--- Changed tables and rows worked out by hand. Each line computes: it is proved by `refl`.
+-- Mapped and combined tables with results computed by hand. Each line is proved by computation
+-- (`refl`).
 use Rattle.std.specs.Prelude.{ℕ, ◌≡◌, ◌+◌, ◌/◌, [], ◌∷◌, refl}
 use Rattle.v_frame.specs.Prelude.{Table, Raster, geometry_of, raster, table_of, whole_rows, pixel_at}
 use Rattle.v_frame_ops.specs.Border.{nearest}
@@ -17,7 +18,8 @@ means : combined (combined (λ p q. (p + q) / 2)) two_rows two_others
     ≡ (5 ∷ 5 ∷ 5 ∷ []) ∷ (2 ∷ 2 ∷ 4 ∷ []) ∷ []
 means = refl
 
--- after a border of 2, three columns: those of the border before and behind, and the three
+-- A picture of three columns after a padding of two: a column of the padding before it, its first
+-- and its last column, and a column of the padding after it.
 before : nearest 2 3 0 ≡ 0
 before = refl
 
@@ -30,7 +32,7 @@ last = refl
 behind : nearest 2 3 9 ≡ 2
 behind = refl
 
--- 3 by 2 pixels, with 1 column of border to the left, 2 to the right, and 1 row above
+-- 3 by 2 pixels, padded with 1 column on the left, 2 columns on the right and 1 row above.
 abbrev padded : Raster ℕ
 padded =
     raster (geometry_of 3 2 1 2 1 0 1 1)

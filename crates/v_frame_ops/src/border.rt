@@ -1,4 +1,5 @@
-//! The border of a plane, made the continuation of what the plane shows: motion search and filters read it past the edge.
+//! Padding filled with the edge pixels of the picture. Motion search and filters need it when they read past the edge of a
+//! plane.
 ghost use Rattle.std.specs.Prelude.{◌≡◌, ◌≢◌, ◌+◌, ◌-◌, ◌<◌, ◌≤◌, ◌⊎◌, ℕ, length, replicate, slice_get, Some};
 ghost use Rattle.v_frame.specs.Prelude.{IsWhole, pixel_at, raster, stride_of, alloc_height_of, table_of, whole_rows};
 ghost use Rattle.v_frame_ops.specs.Border.{nearest, IsPadded};
@@ -7,7 +8,8 @@ use crate::laws::whole_rows_hold_pixels;
 use v_frame::pixel::{Pixel, fill_row};
 use v_frame::plane::{Plane, PlaneGeometry, split_row_mut, visible_rows_mut};
 
-/// Makes each pixel of the border the visible pixel nearest to it. What the plane shows stays.
+/// Fills the padding of `plane` by replicating the edge pixels: each padding pixel becomes a copy of the nearest visible pixel,
+/// and each corner a copy of the nearest corner pixel. The visible pixels stay unchanged.
 pub fn pad<T: Pixel>(plane: &mut Plane<T>)
     ensures padded { IsPadded plane.new }
     ensures table { table_of plane.new ≡ table_of plane.old }
@@ -17,7 +19,8 @@ pub fn pad<T: Pixel>(plane: &mut Plane<T>)
     pad_buffer(plane.data_mut(), geometry);
 }
 
-/// Does the same to the whole buffer of a plane of this geometry, which may be kept elsewhere.
+/// Fills the padding of `buffer` by replicating the edge pixels, as [`pad`] does. `buffer` is the whole buffer of a plane with
+/// this `geometry`, its padding included, and may be kept outside a [`Plane`]. The visible pixels stay unchanged.
 pub fn pad_buffer<T: Pixel>(buffer: &mut [T], geometry: PlaneGeometry)
     requires { IsWhole geometry buffer.old }
     ensures padded { IsPadded (raster geometry buffer.new) }
@@ -27,7 +30,7 @@ pub fn pad_buffer<T: Pixel>(buffer: &mut [T], geometry: PlaneGeometry)
     continue_picture(buffer, geometry);
 }
 
-/// Makes each entry of a whole buffer the visible pixel nearest to it.
+/// Sets each entry of `buffer`, the whole buffer of a plane with this `geometry`, to the nearest visible pixel.
 fn continue_picture<T: Copy>(buffer: &mut [T], geometry: PlaneGeometry)
     requires { IsWhole geometry buffer.old }
     ensures padded { (x y : ℕ) → x < stride_of geometry → y < alloc_height_of geometry
@@ -43,7 +46,7 @@ fn continue_picture<T: Copy>(buffer: &mut [T], geometry: PlaneGeometry)
     extend_picture(buffer, geometry);
 }
 
-/// Extends the rows of the picture to both sides, and then repeats the first one above and the last one below.
+/// Extends the rows of the picture to both sides, then copies the first extended row upwards and the last one downwards.
 fn extend_picture<T: Copy>(buffer: &mut [T], geometry: PlaneGeometry)
     requires { IsWhole geometry buffer.old }
     ensures { (x y : ℕ) → x < stride_of geometry → y < alloc_height_of geometry
@@ -65,7 +68,7 @@ fn extend_picture<T: Copy>(buffer: &mut [T], geometry: PlaneGeometry)
     repeat_rows(buffer, whole, top, height);
 }
 
-/// Extends each row from `top` on and above `bottom` to both sides, from the `width` pixels that begin at column `left`.
+/// Extends the rows `top..bottom` to both sides. In each of these rows the picture is the `width` pixels from column `left` on.
 fn extend_rows<T: Copy>(
     buffer: &mut [T],
     whole: PlaneGeometry,
@@ -87,7 +90,7 @@ fn extend_rows<T: Copy>(
     }
 }
 
-/// Extends row `y` to both sides.
+/// Extends row `y` to both sides. The picture in that row is the `width` pixels from column `left` on.
 fn extend_row_at<T: Copy>(
     buffer: &mut [T],
     whole: PlaneGeometry,
@@ -108,7 +111,7 @@ fn extend_row_at<T: Copy>(
     extend_row(row, left, width);
 }
 
-/// Makes each pixel of a row the one nearest to it of the `width` pixels that begin at column `left`.
+/// Replicates the edge pixels of a row to both sides. The picture in `row` is the `width` pixels from column `left` on.
 fn extend_row<T: Copy>(row: &mut [T], left: usize, width: usize)
     requires some { 0 < width }
     requires wide { left + width ≤ length row.old }
@@ -121,7 +124,7 @@ fn extend_row<T: Copy>(row: &mut [T], left: usize, width: usize)
     fill_part(row, left + width, row.len(), last);
 }
 
-/// Fills the pixels of a row from one column up to another.
+/// Sets the pixels `start..end` of `row` to `pixel`.
 #[inline(always)]
 fn fill_part<T: Copy>(row: &mut [T], start: usize, end: usize, pixel: T)
     requires order { start ≤ end }
@@ -137,8 +140,8 @@ fn fill_part<T: Copy>(row: &mut [T], start: usize, end: usize, pixel: T)
     }
 }
 
-/// Does the same by blocks of 16 pixels. A border is a block or two wide, and a loop that may end at each pixel takes longer
-/// to begin and to end than to write. The last block may reach back into the one before it.
+/// Sets the pixels `start..end` of `row` to `pixel`, in blocks of 16. Padding is often only one or two blocks wide, so a loop
+/// over single pixels would spend most of its time on entering and leaving. The last block may overlap the one before it.
 #[inline(always)]
 fn fill_blocks<T: Copy>(row: &mut [T], start: usize, end: usize, pixel: T)
     requires order { start + 16 ≤ end }
@@ -153,7 +156,7 @@ fn fill_blocks<T: Copy>(row: &mut [T], start: usize, end: usize, pixel: T)
     fill_block(row, end - 16, pixel);
 }
 
-/// Fills the 16 pixels of a row from a column on.
+/// Sets the 16 pixels of `row` from column `start` on to `pixel`.
 #[inline(always)]
 fn fill_block<T: Copy>(row: &mut [T], start: usize, pixel: T)
     requires { start + 16 ≤ length row.old }
@@ -165,7 +168,7 @@ fn fill_block<T: Copy>(row: &mut [T], start: usize, pixel: T)
     fill_sixteen(&mut row[start..start + 16], pixel);
 }
 
-/// Fills 16 pixels.
+/// Sets all of `pixels`, which are 16, to `pixel`.
 #[inline(always)]
 fn fill_sixteen<T: Copy>(pixels: &mut [T], pixel: T)
     requires { length pixels.old ≡ 16 }
@@ -174,7 +177,8 @@ fn fill_sixteen<T: Copy>(pixels: &mut [T], pixel: T)
     pixels.copy_from_slice(&[pixel; 16]);
 }
 
-/// Makes each row the one nearest to it of the `height` rows that begin with row `top`.
+/// Copies row `top` into each row above it, and row `top + height - 1` into each row below it. These two are the first and the
+/// last row of the picture.
 fn repeat_rows<T: Copy>(buffer: &mut [T], whole: PlaneGeometry, top: usize, height: usize)
     requires whole { IsWhole whole buffer.old }
     requires some { 0 < height }
@@ -186,7 +190,7 @@ fn repeat_rows<T: Copy>(buffer: &mut [T], whole: PlaneGeometry, top: usize, heig
     repeat_row_down(buffer, whole, top + height);
 }
 
-/// Copies the row `from` into each row above it.
+/// Copies row `from` into each row above it.
 fn repeat_row_up<T: Copy>(buffer: &mut [T], whole: PlaneGeometry, from: usize)
     requires whole { IsWhole whole buffer.old }
     requires high { from < whole.height }
@@ -201,7 +205,7 @@ fn repeat_row_up<T: Copy>(buffer: &mut [T], whole: PlaneGeometry, from: usize)
     }
 }
 
-/// Copies the last row above `end` into each row from there on.
+/// Copies row `end - 1` into each row from row `end` on.
 fn repeat_row_down<T: Copy>(buffer: &mut [T], whole: PlaneGeometry, end: usize)
     requires whole { IsWhole whole buffer.old }
     requires some { 0 < end }

@@ -1,5 +1,5 @@
-//! Changes of planes: each pixel by a function, alone or with that of another plane, all to one pixel, or a rectangle to what
-//! another plane shows. Borders stay.
+//! Operations that write the visible pixels of a plane: map each pixel, combine it with a pixel of another plane, fill, or copy
+//! a rectangle. The padding stays unchanged.
 ghost use Rattle.std.specs.Prelude.{◌≡◌, ◌+◌, ◌<◌, ◌≤◌, ◌⊎◌, ℕ, replicate, slice_get, Some};
 ghost use Rattle.v_frame.specs.Prelude.{KeepsBorder, pixel_at, table_of};
 ghost use Rattle.v_frame_ops.specs.Change.{mapped, combined, MapsPixels, CombinesPixels};
@@ -8,10 +8,10 @@ use crate::rows;
 use v_frame::pixel::Pixel;
 use v_frame::plane::{Plane, PlaneRef, VisibleMut, copy_rows};
 
-/// Makes each visible pixel a result of `change` at it.
+/// Replaces each visible pixel of `plane` by the result of `change` for it.
 ///
-/// `change` has to accept any pixel, and doesn't learn its column and row. With a saturating addition, a shift or the like the
-/// compiler makes packed code of it.
+/// `change` must accept every pixel of the type. It receives the pixel only, not its column and row. The padding stays
+/// unchanged. The compiler vectorizes a simple `change`, for example a saturating addition or a shift.
 pub fn map_pixels<T: Pixel, F: Fn(T) -> T>(plane: &mut Plane<T>, change: F)
     requires { F.IsAlwaysCallable change }
     ensures pixels { MapsPixels (F.post change) (table_of plane.old) (table_of plane.new) }
@@ -28,8 +28,11 @@ pub fn map_pixels<T: Pixel, F: Fn(T) -> T>(plane: &mut Plane<T>, change: F)
     rows::map_pixels(entries, width, height, stride, change);
 }
 
-/// Makes each visible pixel a result of `combine` at it and at the pixel of the same column and row of `other`, which has the
-/// same size.
+/// Replaces each visible pixel of `plane` by the result of `combine` for it and the pixel of `other` in the same column and
+/// row.
+///
+/// `combine` must accept every pair of pixels of the type. Both planes have the same width and height. The padding stays
+/// unchanged.
 pub fn combine_pixels<T: Pixel, F: Fn(T, T) -> T>(
     plane: &mut Plane<T>,
     other: &PlaneRef<'_, T>,
@@ -54,7 +57,7 @@ pub fn combine_pixels<T: Pixel, F: Fn(T, T) -> T>(
     rows::combine_pixels(entries, width, height, stride, &other, combine);
 }
 
-/// Sets each visible pixel to `pixel`.
+/// Sets each visible pixel of `plane` to `pixel`. The padding stays unchanged.
 pub fn fill<T: Pixel>(plane: &mut Plane<T>, pixel: T)
     ensures rows { (y : ℕ) → y < plane.old.geometry.height
         → slice_get (table_of plane.new) y ≡ Some (replicate plane.old.geometry.width pixel) }
@@ -71,7 +74,10 @@ pub fn fill<T: Pixel>(plane: &mut Plane<T>, pixel: T)
     rows::fill(entries, width, height, stride, pixel);
 }
 
-/// Writes all that `source` shows into `target`, from column `x` of row `y` on. There has to be room for it.
+/// Copies all visible pixels of `source` into `target`. The top left pixel of `source` is written to column `x` of row `y`.
+///
+/// The whole of `source` must fit inside `target` at this position; [`copy_region_clipped`](crate::copy_region_clipped) has no
+/// such limit. The other pixels of `target` and its padding stay unchanged.
 pub fn copy_region<T: Pixel>(source: &PlaneRef<'_, T>, target: &mut Plane<T>, x: usize, y: usize)
     requires wide { x + source.now.geometry.width ≤ target.old.geometry.width }
     requires high { y + source.now.geometry.height ≤ target.old.geometry.height }

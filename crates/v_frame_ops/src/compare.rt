@@ -1,4 +1,5 @@
-//! Comparisons of two planes of one size: how far they are apart, and where they first differ.
+//! Comparisons of two planes of the same size: the sum of absolute differences, the sum of squared errors, and the first pixel
+//! that differs.
 ghost use Rattle.std.specs.Prelude.{◌≡◌, ◌<◌, ◌↔◌, IsNone, IfSome};
 ghost use Rattle.v_frame.specs.Prelude.{absolute_differences, row_major, squared_errors, table_of};
 ghost use Rattle.v_frame_ops.specs.Compare.{IsFirstDifference};
@@ -7,8 +8,8 @@ use crate::rows;
 use v_frame::pixel::Pixel;
 use v_frame::plane::PlaneRef;
 
-/// Returns the sum of the absolute differences of the pixels of two planes, pixel by pixel. It is exact, and never too
-/// large.
+/// Returns the sum of absolute differences (SAD) of two planes of the same size: the sum of `|p - q|` over all pairs of visible
+/// pixels `p` of `a` and `q` of `b` at the same column and row. The sum is exact and never overflows.
 #[inline(always)]
 pub fn sum_of_absolute_differences<T: Pixel>(a: &PlaneRef<'_, T>, b: &PlaneRef<'_, T>) -> u128
     requires wide { a.now.geometry.width ≡ b.now.geometry.width }
@@ -19,8 +20,8 @@ pub fn sum_of_absolute_differences<T: Pixel>(a: &PlaneRef<'_, T>, b: &PlaneRef<'
     rows::sum_of_absolute_differences(&a.as_rows_ref(), &b.as_rows_ref())
 }
 
-/// Returns the sum of the squares of the differences of the pixels of two planes, pixel by pixel. It is exact, and never too
-/// large.
+/// Returns the sum of squared errors (SSE) of two planes of the same size: the sum of `(p - q)^2` over all pairs of visible
+/// pixels `p` of `a` and `q` of `b` at the same column and row. The sum is exact and never overflows.
 #[inline(always)]
 pub fn sum_of_squared_errors<T: Pixel>(a: &PlaneRef<'_, T>, b: &PlaneRef<'_, T>) -> u128
     requires wide { a.now.geometry.width ≡ b.now.geometry.width }
@@ -31,8 +32,9 @@ pub fn sum_of_squared_errors<T: Pixel>(a: &PlaneRef<'_, T>, b: &PlaneRef<'_, T>)
     rows::sum_of_squared_errors(&a.as_rows_ref(), &b.as_rows_ref())
 }
 
-/// Returns the column and the row of the first pixel, row after row from the top, that differs. `None` exactly where the
-/// planes show the same.
+/// Returns the column and the row of the first visible pixel that differs between two planes of the same size. Pixels are
+/// compared from left to right within a row, and rows from top to bottom. Returns `None` if and only if all visible pixels are
+/// equal.
 pub fn first_difference<T: Pixel>(
     a: &PlaneRef<'_, T>,
     b: &PlaneRef<'_, T>,

@@ -1,5 +1,5 @@
-//! Planes composed of two: one blended over a part of another, evenly or by a mask, one copied as far as it lies inside
-//! another, or how far two are apart. Borders stay.
+//! Operations that combine two planes: blend one over a rectangle of another, evenly or by a mask, copy one into another with
+//! clipping, or compute an amplified difference. The padding stays unchanged.
 ghost use Rattle.std.specs.Prelude.{◌≡◌, ◌+◌, ◌*◌, ◌^◌, ◌<◌, ◌≤◌, ◌⊎◌, ℕ, min, Some};
 ghost use Rattle.std.specs.Int.{abs_diff};
 ghost use Rattle.v_frame.specs.Prelude.{KeepsBorder, pixel_at, table_of};
@@ -12,11 +12,15 @@ use crate::rows::{largest_value, pixel_difference};
 use v_frame::pixel::Pixel;
 use v_frame::plane::{Plane, PlaneRef, VisibleMut};
 
-/// Blends all that `source` shows over `target`, from column `x` of row `y` on: of 256 parts of each pixel it has `weight`, and
-/// the target the rest. There has to be room for it.
+/// Blends all visible pixels of `source` over a rectangle of `target` with one weight. The top left pixel of `source` is
+/// blended at column `x` of row `y`.
 ///
-/// A pixel of value `p` becomes `(p * (256 - weight) + q * weight + 128) / 256`, where `q` is the value of the source's pixel.
-/// So a weight of 0 keeps the target, and one of 256 copies the source.
+/// `weight` is at most 256. The source contributes `weight / 256` of each pixel and the target the rest. A target pixel of
+/// value `p` becomes `(p * (256 - weight) + q * weight + 128) / 256`, where `q` is the value of the source pixel and the
+/// division rounds down. A weight of 0 leaves the target unchanged, and a weight of 256 copies the source.
+///
+/// The whole of `source` must fit inside `target` at this position. The other pixels of `target` and its padding stay
+/// unchanged.
 pub fn blend_region<T: Pixel>(
     source: &PlaneRef<'_, T>,
     target: &mut Plane<T>,
@@ -45,11 +49,15 @@ pub fn blend_region<T: Pixel>(
     rows::blend(&source, entries, width, height, stride, weight);
 }
 
-/// Blends all that `source` shows over `target` by `mask`, from column `x` of row `y` on: of 255 parts of each pixel the source
-/// has as many as the mask holds there, and the target the rest. The mask has the size of the source, and there has to be room.
+/// Blends all visible pixels of `source` over a rectangle of `target`, each pixel with its own weight from `mask`. The top left
+/// pixel of `source` is blended at column `x` of row `y`.
 ///
-/// A pixel of value `p` becomes `(p * (255 - m) + q * m) / 255`, rounded to the nearest value, where `q` is the value of the
-/// source's pixel and `m` that of the mask's. So 0 keeps a pixel, and 255 copies the source's.
+/// `mask` has the same size as `source`. A target pixel of value `p` becomes `(p * (255 - m) + q * m) / 255`, rounded to the
+/// nearest integer, where `q` is the value of the source pixel and `m` the value of the mask pixel. A mask value of 0 leaves
+/// the target pixel unchanged, and a mask value of 255 copies the source pixel.
+///
+/// The whole of `source` must fit inside `target` at this position. The other pixels of `target` and its padding stay
+/// unchanged.
 pub fn blend_region_with_mask<T: Pixel>(
     source: &PlaneRef<'_, T>,
     mask: &PlaneRef<'_, u8>,
@@ -80,8 +88,10 @@ pub fn blend_region_with_mask<T: Pixel>(
     rows::blend_with_mask(&source, &mask, entries, width, height, stride);
 }
 
-/// Writes all that `source` shows into `target`, with its first pixel at column `x` of row `y`, either of which may be negative
-/// or past the edge: what lies outside the target is left out.
+/// Copies the visible pixels of `source` into `target`, clipped to the visible pixels of `target`. The top left pixel of
+/// `source` belongs at column `x` of row `y`, and both numbers may be negative or lie past the edge.
+///
+/// Source pixels that fall outside the target are skipped. The other pixels of `target` and its padding stay unchanged.
 pub fn copy_region_clipped<T: Pixel>(
     source: &PlaneRef<'_, T>,
     target: &mut Plane<T>,
@@ -107,11 +117,12 @@ pub fn copy_region_clipped<T: Pixel>(
     rows::copy_region_clipped(&source, entries, width, height, stride, x, y);
 }
 
-/// Makes each visible pixel the difference from the pixel of the same column and row of `other`, which has the same size, times
-/// `gain`, and at most the largest value of a bit depth.
+/// Replaces each visible pixel of `plane` by its absolute difference from the pixel of `other` in the same column and row,
+/// multiplied by `gain` and clipped to the largest value of the bit depth.
 ///
-/// A pixel of value `p` becomes `min(|p - q| * gain, 2^depth - 1)`, where `q` is the value of the other's pixel. With a gain of 1
-/// it is what ffmpeg's filter `blend=difference` shows. The depth has to fit the type: at most 8 bits for `u8`, and 16 for `u16`.
+/// A pixel of value `p` becomes `min(|p - q| * gain, 2^depth - 1)`, where `q` is the value of the pixel of `other`. With a gain
+/// of 1 the result equals that of FFmpeg's filter `blend=difference`. Both planes have the same size. `depth` is at most 8 for
+/// `u8` and at most 16 for `u16`. The padding stays unchanged.
 pub fn difference<T: Pixel>(other: &PlaneRef<'_, T>, plane: &mut Plane<T>, gain: u16, depth: u8)
     requires wide { other.now.geometry.width ≡ plane.old.geometry.width }
     requires high { other.now.geometry.height ≡ plane.old.geometry.height }

@@ -1,11 +1,12 @@
-//! Laws of tables, pixel by pixel, which the proof of a filter cites. Each is the contract of a function. Our own.
+//! Laws of tables, pixel by pixel, for the proofs of filters. Each law is the contract of a function that does nothing.
 ghost use Rattle.std.specs.Prelude.{◌≡◌, ◌<◌, ℕ, All, length};
 ghost use Rattle.v_frame.specs.Prelude.{Raster, Table, pixel_at, rectangle, table_of, whole_rows};
 ghost use Rattle.v_frame_ops.specs.Rows.{HoldsPixelsFrom};
 
 use v_frame::laws::tables_are_rectangles;
 
-/// Tables of one size are equal where they agree pixel by pixel. So what a filter did can be stated as one table.
+/// Two tables of the same size are equal if they are equal pixel by pixel. With this law, the result of a filter can be stated
+/// as one table.
 pub fn tables_agree_by_pixels<T>()
     ensures { (width : ℕ) (table other : Table T) → length table ≡ length other
         → All (λ row. length row ≡ width) table → All (λ row. length row ≡ width) other
@@ -13,13 +14,15 @@ pub fn tables_agree_by_pixels<T>()
         → table ≡ other }
 {}
 
-/// The pixels of a rectangle are those of the table, counted from its corner.
+/// The pixel at column `i` of row `j` of a rectangle is the pixel of the table at column `x + i` of row `y + j`, where the
+/// rectangle begins at column `x` of row `y`.
 pub fn rectangles_hold_pixels<T>()
     ensures { (rows : Table T) (x y width height : ℕ) → HoldsPixelsFrom rows x y width height
         (rectangle x y width height rows) }
 {}
 
-/// The visible pixels of a plane are those of its whole buffer, after the border above them and to their left.
+/// A visible pixel of a plane is a pixel of its whole buffer, with the padding on its left added to its column and the padding
+/// above added to its row.
 pub fn whole_rows_hold_pixels<T>()
     ensures { (p : Raster T) → let g = p.geometry in
         HoldsPixelsFrom (whole_rows p) g.pad_left g.pad_top g.width g.height (table_of p) }

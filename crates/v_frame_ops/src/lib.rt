@@ -1,5 +1,5 @@
-//! What codecs and comparers do with planes: compare two, continue one past its edge, halve one, change one pixel by pixel, and
-//! compose two.
+//! Operations on planes for codecs and for programs that compare video: map, combine, fill, copy, blend, pad, halve and
+//! compare.
 #![tactic(auto)]
 
 mod border;

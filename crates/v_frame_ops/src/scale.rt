@@ -1,4 +1,4 @@
-//! Planes of another size.
+//! Planes in half their size.
 ghost use Rattle.std.specs.Prelude.{◌≡◌, ◌+◌, ◌*◌, ℕ, List, slice_get, Some};
 ghost use Rattle.v_frame.specs.Prelude.{halved, KeepsBorder, table_of};
 
@@ -6,8 +6,10 @@ use crate::rows;
 use v_frame::pixel::Pixel;
 use v_frame::plane::{Plane, PlaneRef, VisibleMut};
 
-/// Shows in `target` what `source` shows, in half the size: each pixel is the mean of a block of two by two, rounded to the
-/// nearest value and upwards at a half. The border of the target stays.
+/// Writes `source` in half its width and half its height into `target`. Each pixel is the mean of a block of 2 by 2 source
+/// pixels, rounded to the nearest integer, halves up.
+///
+/// The width and the height of `source` are exactly twice those of `target`. The padding of `target` stays unchanged.
 pub fn downscale<T: Pixel>(source: &PlaneRef<'_, T>, target: &mut Plane<T>)
     requires wide { source.now.geometry.width ≡ 2 * target.old.geometry.width }
     requires high { source.now.geometry.height ≡ 2 * target.old.geometry.height }

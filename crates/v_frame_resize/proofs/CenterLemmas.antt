@@ -1,4 +1,4 @@
--- The pixels that hold centers.
+-- The pixels that contain the centers.
 use Rattle.std.proofs.Common.{ℕ, ◌≡◌, ◌+◌, ◌*◌, ◌^◌, ◌<◌, ◌≤◌, inl, inr, arith}
 use Rattle.std.proofs.Math.Nat.{mul-le-mul_right, mul-le-mul_left}
 use Rattle.std.proofs.lemmas.Bool.{cases_lt}
@@ -8,11 +8,11 @@ use Rattle.v_frame_resize.specs.Centers.{IsCenter, CanAdvance}
 use Rattle.v_frame_resize.specs.declared.center.Center.{Center}
 
 module _ (source target x : ℕ) (center : Center) (is : IsCenter source target x center) where
-  -- it is the quotient of the center's place
+  -- The nearest pixel is the quotient of the position of the center.
   pub nearest_is : nearest source target x ≡ center.index
   nearest_is = rw (← is.place) (div-mul-add center.index (2 * target) center.rest is.within)
 
-  -- it is a pixel of the source
+  -- The nearest pixel is a pixel of the source.
   pub center_inside : 0 < source → x < target → center.index < source
   center_inside some inside = elim (cases_lt center.index source) [
     | inl h ↦ h

@@ -6,8 +6,8 @@ use Rattle.std.proofs.lemmas.Bool.{cases_lt}
 use Rattle.std.proofs.lemmas.Nat.{div-add-mod'}
 use Rattle.v_frame_resize.specs.Resize.{nearest}
 
--- A step is `source / d` pixels, of which m are whole parts. Where a pixel has the square of d parts, n steps of one part more
--- end in the pixel in which n true ones end.
+-- A step is `source / d` pixels, of which `m` are whole parts. If a pixel has at least `d` squared parts, then `n`
+-- steps that are rounded up end in the same pixel as `n` exact steps.
 steps_end : (source d parts n m w q r : ℕ) → 0 < d → n < d → d * d ≤ parts → m * d + w ≡ source * parts → w < d
     → q * d + r ≡ n * source → r < d → n * (m + 1) / parts ≡ q
 steps_end source d parts n m w q r some low room whole w_low places r_low =
@@ -35,7 +35,7 @@ module _ (source d parts n : ℕ) (some : 0 < d) where
       (div-add-mod' (source * parts) d) (mod-lt (source * parts) some) (div-add-mod' (n * source) d)
       (mod-lt (n * source) some)
 
-  -- two more steps can be counted
+  -- Two more steps do not overflow.
   pub places_fit : n < d → d ≤ 131072 → source * parts ≤ 2 ^ 56
       → n * (source * parts / d + 1) + 2 * (source * parts / d + 1) < 2 ^ 64
   places_fit low small few =
@@ -45,14 +45,14 @@ module _ (source d parts n : ℕ) (some : 0 < d) where
       let one : m * 1 ≤ m * d = mul-le-mul_left m (omega arith) in
       omega (arith, all, one, whole)
 
--- the pixel that holds a center is inside
+-- The pixel that contains a center is inside the row.
 pub nearest_inside : (source target x : ℕ) → 0 < source → x < target → nearest source target x < source
 nearest_inside source target x some inside =
     let d : 0 < 2 * target = omega arith in
     let low : (2 * x + 1 + 1) * source ≤ 2 * target * source = mul-le-mul_right source (omega arith) in
     (div-lt_iff_lt-mul d).1 (omega (arith, low))
 
--- the place of the center that is reached after x steps of rows that are not too long
+-- The position of the center after `x` steps, for rows of at most 65,536 pixels.
 pub record IsPlace (source target half x place : ℕ) : Type 0 where
   pub wide : target ≤ 65536
   pub few : source ≤ 65536
@@ -64,7 +64,7 @@ module _ {source target half x place : ℕ} (is : IsPlace source target half x p
   next_place = record { wide = is.wide; few = is.few; step = is.step; so_far = omega (arith, is.so_far) }
 
   module _ (inside : x < target) where
-    -- the pixel that holds it
+    -- The pixel that contains the center at this position.
     pub center_is : place / 1099511627776 ≡ nearest source target x
     center_is =
         let low : 2 * target ≤ 131072 = omega (arith, is.wide) in

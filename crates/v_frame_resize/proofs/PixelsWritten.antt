@@ -1,4 +1,4 @@
--- Loops over the rows of a buffer that write them pixel by pixel.
+-- Loops over the rows of a buffer that write the rows pixel by pixel.
 use Rattle.std.proofs.Common.{ℕ, ◌≡◌, ◌+◌, ◌-◌, ◌*◌, ◌<◌, List, length, take, drop, Option, slice_get, slice_set}
 use Rattle.std.proofs.Common.{option_and_then}
 use Rattle.std.proofs.Common.{◌∙◌, ap, arith, length-take-le, length-drop}
@@ -10,7 +10,7 @@ use Rattle.v_frame_raster.proofs.tables.StridedWrites.{row_ends, row_put, rest_p
 use borrow.Author.Count.{below_more}
 use borrow.Rule.Slice.PartMut.{put_mid}
 
--- the rows of a table in front of one have the pixels that are expected, and all else is as it was
+-- The rows above row `y` have the expected pixels, and everything else is unchanged.
 pub record PixelsBelow {T : Type 0} (at : ℕ → ℕ → Option T) (width height stride : ℕ) (old now : List T) (y : ℕ)
     : Type 0 where
   pub pixels : (k : ℕ) → k < y → (x : ℕ) → x < width → pixel_at (strided_rows width height stride now) x k ≡ at x k
@@ -20,7 +20,7 @@ module _ {T : Type 0} (at : ℕ → ℕ → Option T) (width height stride : ℕ
   pub no_pixels : PixelsBelow at width height stride old old 0
   no_pixels = record { pixels = λ k h. absurd (omega arith); rest = rest_same width height stride old }
 
-  -- one more row
+  -- The loop step: one more row.
   pub one_more_row : (now row : List T) (y : ℕ) → RowsFit width height stride (length old) → y < height
       → length now ≡ length old
       → length row ≡ length (take (stride * y + width - stride * y) (drop (stride * y) now))

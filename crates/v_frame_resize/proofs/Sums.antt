@@ -1,4 +1,4 @@
--- Loops that add up what a span of a list counts, each item times the units that a pixel of the target covers.
+-- Loops that add up the items of a span, each multiplied by the number of units that a target pixel covers of it.
 use Rattle.std.proofs.Common.{ℕ, ◌≡◌, ◌+◌, ◌-◌, ◌*◌, ◌/◌, ◌^◌, ◌<◌, ◌≤◌, List, length, drop, get_or}
 use Rattle.std.proofs.Common.{inl, inr, refl, sym, arith}
 use Rattle.std.proofs.Math.Nat.{mul-le-mul, mul-le-mul_left, mul-le-mul_right, div-lt_iff_lt-mul, one-le-pow}
@@ -9,7 +9,7 @@ use Rattle.v_frame_resize.specs.declared.span.Span.{Span}
 use Rattle.v_frame_resize.proofs.Weights.{from_first, up_to_last, one_more_weighed, covered, covered_more}
 use Rattle.v_frame_resize.proofs.Weights.{covered_within, none_before, none_behind}
 
--- the sum so far and that of the items that are left are the whole, and no item counts more than the most
+-- The sum so far plus the sum of the remaining items is the whole sum, and no item is above `most`.
 pub record SumSoFar {X : Type 0} (count : X → ℕ) (most source target x : ℕ) (xs : List X) (i sum : ℕ) : Type 0 where
   pub so_far : sum + weighted_from i (λ k. overlap source target k x) count (drop i xs)
       ≡ weighted (λ k. overlap source target k x) count xs
@@ -46,13 +46,13 @@ module _ {X : Type 0} (count : X → ℕ) (most source target x : ℕ) (xs : Lis
       (λ k h. none_behind source target stop x behind k (omega arith)) in
       omega (arith, nothing, so_far.so_far)
 
--- a sum never exceeds the most for each unit
+-- A sum is at most `most` for each covered unit.
 pub sum_within : {X : Type 0} {count : X → ℕ} {most source target x i sum : ℕ} {xs : List X}
     → SumSoFar count most source target x xs i sum → sum ≤ most * source
 sum_within {X} {count} {most} {source} {target} {x} {i} so_far =
     omega (arith, so_far.bound, mul-le-mul_left most (covered_within source target i x))
 
--- a pixel of the target begins in a pixel of the source
+-- A target pixel begins inside the source.
 pub first_inside : (source target x first : ℕ) → 0 < source → x < target → IsFirst source target x first
     → first < source
 first_inside source target x first some within is = elim (cases_lt first source) [
@@ -63,7 +63,7 @@ first_inside source target x first some within is = elim (cases_lt first source)
       absurd (omega (arith, mul-le-mul_right target high, mul-le-mul_right source low, is.before, is.begins))
 ]
 
--- a pixel of the source that is neither the first nor the last of a span is covered whole
+-- A source pixel that is neither the first nor the last one of a span is fully covered.
 pub inner_units : (source target x i : ℕ) (span : Span) → IsSpan source target x span → span.first < i
     → i + 1 < span.stop → overlap source target i x ≡ target
 inner_units source target x i span is past before =
@@ -80,7 +80,7 @@ inner_units source target x i span is past before =
 
 module _ {X : Type 0} {count : X → ℕ} {most source target x : ℕ} {xs : List X} {span : Span}
     (is : IsSpan source target x span) (long : length xs ≡ source) where
-  -- the part of the first item
+  -- The share of the first item.
   pub head_added : {part : ℕ} (d : X) → part ≡ count (get_or xs span.first d) → part ≤ most
       → SumSoFar count most source target x xs (span.first + 1) (span.head * part)
   head_added {part} d counts small =
@@ -89,7 +89,7 @@ module _ {X : Type 0} {count : X → ℕ} {most source target x : ℕ} {xs : Lis
       rw none at (sum_more count most source target x xs span.first 0 span.head part d
       (omega (arith, is.order, is.inside, long)) is.head counts small begun)
 
-  -- one item that is covered whole
+  -- One item that is fully covered.
   pub inner_added : {i part : ℕ} (head inner : ℕ) (d : X) → span.first < i → i + 1 < span.stop
       → part ≡ count (get_or xs i d) → part ≤ most → SumSoFar count most source target x xs i (head + target * inner)
       → SumSoFar count most source target x xs (i + 1) (head + target * (inner + part))
@@ -99,7 +99,7 @@ module _ {X : Type 0} {count : X → ℕ} {most source target x : ℕ} {xs : Lis
       rw both at (sum_more count most source target x xs i (head + target * inner) target part d
       (omega (arith, before, is.inside, long)) (sym units) counts small so_far)
 
-  -- the part of the last item, after which the sum is whole
+  -- The share of the last item, with which the sum is complete.
   pub tail_added : {i sum part : ℕ} (d : X) → i ≡ span.stop - 1
       → part ≡ count (get_or xs (span.stop - 1) d) → part ≤ most → SumSoFar count most source target x xs i sum
       → SumSoFar count most source target x xs span.stop (sum + span.tail * part)
@@ -115,14 +115,14 @@ module _ {X : Type 0} {count : X → ℕ} {most source target x : ℕ} {xs : Lis
   whole_added {i} {sum} end so_far =
       sum_done count most source target x xs i span.stop sum (rw (← is.end) is.behind) (omega arith) so_far
 
--- values of pixels of one byte or two
+-- The values of pixels of one byte or two bytes fit 16 bits.
 pub values_fit : (n : ℕ) → 0 < n → n < 3 → 256 ^ n ≤ 65536
 values_fit n some few = elim (cases_lt n 2) [
   | inl one ↦ let e : n ≡ 1 = omega arith in rw e (omega arith)
   | inr two ↦ let e : n ≡ 2 = omega arith in rw e (omega arith)
 ]
 
--- a mean of values is no greater than the most
+-- A mean of values is at most the largest value.
 pub mean_within : (sum most area : ℕ) → 0 < area → sum ≤ most * area → (sum + area / 2) / area ≤ most
 mean_within sum most area some within =
     let less : sum + area / 2 < (most + 1) * area = omega (arith, within) in
@@ -133,7 +133,7 @@ mean_within sum most area some within =
 pub values_some : (n : ℕ) → 0 < 256 ^ n
 values_some n = omega (arith, one-le-pow n 256 (omega arith))
 
--- a sum of values of so many units fits its type
+-- A sum of values over this number of units fits its type.
 pub sum_fits : {size bytes units sum : ℕ} → (0 < size) × (size < 3) → bytes ≡ size → units ≤ 2 ^ 48
     → sum ≤ (256 ^ bytes - 1) * units → sum < 2 ^ 64
 sum_fits {size} {bytes} byte_or_two same small within =

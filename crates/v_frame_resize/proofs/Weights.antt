@@ -1,4 +1,4 @@
--- Weighted sums over a list, from one index on, and the units that pixels cover.
+-- Weighted sums over a list from one index on, and the units that pixels cover.
 use Rattle.std.proofs.Common.{ℕ, zero, suc, ◌≡◌, ◌+◌, ◌-◌, ◌*◌, ◌<◌, ◌≤◌, List, [], ◌∷◌, length, drop, get_or}
 use Rattle.std.proofs.Common.{refl, arith, min, max}
 use Rattle.std.proofs.Math.Nat.{mul-le-mul_right}
@@ -6,7 +6,7 @@ use Rattle.std.proofs.lemmas.List.{drop_more}
 use Rattle.v_frame_resize.specs.Resize.{overlap, weighted_from}
 
 module _ {X : Type 0} (weight : ℕ → ℕ) (count : X → ℕ) where
-  -- items that weigh nothing may be left out in front
+  -- Leading items of weight zero can be dropped.
   pub from_first : (n i : ℕ) (xs : List X) → ((k : ℕ) → k < i + n → weight k ≡ 0)
       → weighted_from i weight count xs ≡ weighted_from (i + n) weight count (drop n xs)
   from_first zero i xs nothing = let e : i + 0 ≡ i = omega arith in rw e refl
@@ -17,20 +17,20 @@ module _ {X : Type 0} (weight : ℕ → ℕ) (count : X → ℕ) where
       let rest = from_first n (i + 1) xs (λ k h. nothing k (omega arith)) in
       rw none (omega (arith, rw on at rest))
 
-  -- and at the end
+  -- Trailing items of weight zero can be dropped.
   pub up_to_last : (i : ℕ) (xs : List X) → ((k : ℕ) → i ≤ k → weight k ≡ 0) → weighted_from i weight count xs ≡ 0
   up_to_last i [] nothing = refl
   up_to_last i (x ∷ xs) nothing =
       let none : weight i ≡ 0 = nothing i (omega arith) in
       rw none (omega (arith, up_to_last (i + 1) xs (λ k h. nothing k (omega arith))))
 
-  -- one item, and then the others
+  -- One item, and then the remaining items.
   pub one_more_weighed : (i : ℕ) (xs : List X) (d : X) → i < length xs
       → weighted_from i weight count (drop i xs)
       ≡ weight i * count (get_or xs i d) + weighted_from (i + 1) weight count (drop (i + 1) xs)
   one_more_weighed i xs d h = rw (drop_more xs i d h) refl
 
--- the units up to the end of pixel i of the source that a pixel of the target covers
+-- The number of units that a target pixel covers up to the end of source pixel `i`.
 abbrev pub covered : ℕ → ℕ → ℕ → ℕ → ℕ
 covered source target i x = min (max (i * target) (x * source)) ((x + 1) * source) - x * source
 
@@ -41,7 +41,7 @@ covered_more source target i x = omega arith
 pub covered_within : (source target i x : ℕ) → covered source target i x ≤ source
 covered_within source target i x = omega arith
 
--- a pixel of the source in front of a span, or behind it, has nothing in common with it
+-- A source pixel before or after a span is not covered.
 pub none_before : (source target first x : ℕ) → first * target ≤ x * source → (k : ℕ) → k < first
     → overlap source target k x ≡ 0
 none_before source target first x before k h =

@@ -1,4 +1,4 @@
--- The pixel of the source that holds a center.
+-- The source pixel that contains the center of target pixel `x`.
 use Rattle.std.specs.Prelude.{ℕ, ◌≡◌, ◌+◌, ◌*◌, ◌^◌, ◌<◌}
 use Rattle.v_frame_resize.specs.declared.center.Center.{Center}
 
@@ -9,7 +9,7 @@ pub record IsCenter (source target x : ℕ) (center : Center) : Type 0 where
   pub place : center.index * (2 * target) + center.rest ≡ (2 * x + 1) * source
   pub within : center.rest < 2 * target
 
--- the next center can be counted
+-- The next center can be computed without overflow.
 pub record CanAdvance (center : Center) : Type 0 where
   pub index : center.index < 2 ^ 62
   pub step : center.step < 2 ^ 63

@@ -1,15 +1,15 @@
--- The part of a line that one pixel of the target covers.
+-- The part of a line that one target pixel covers.
 use Rattle.std.specs.Prelude.{ℕ, ◌≡◌, ◌+◌, ◌-◌, ◌*◌, ◌<◌, ◌≤◌}
 use Rattle.v_frame_resize.specs.Resize.{overlap}
 use Rattle.v_frame_resize.specs.declared.span.Span.{Span}
 
--- the pixel of the source in which the units of pixel x of the target begin
+-- The source pixel in which target pixel `x` begins.
 pub record IsFirst (source target x first : ℕ) : Type 0 where
   pub before : first * target ≤ x * source
   pub begins : x * source < (first + 1) * target
 
--- the pixels of the source that have units of pixel x of the target, and how many the first and the
--- last of them have
+-- The source pixels that target pixel `x` covers, and the number of units that it covers of the
+-- first and of the last of them.
 pub record IsSpan (source target x : ℕ) (span : Span) : Type 0 where
   pub first : IsFirst source target x span.first
   pub end : span.end ≡ (x + 1) * source

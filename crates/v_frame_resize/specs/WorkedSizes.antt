@@ -1,10 +1,10 @@
--- Pictures in another size worked out by hand. Each line computes: it is proved by `refl`.
+-- Resized pictures computed by hand. Each line is proved by computation (`refl`).
 use Rattle.std.specs.Prelude.{ℕ, ◌≡◌, [], ◌∷◌, refl}
 use Rattle.v_frame_raster.specs.Pixel.{one_byte}
 use Rattle.v_frame_raster.specs.Table.{Table}
 use Rattle.v_frame_resize.specs.Resize.{overlap, row_sum, area_sum, area_mean, nearest}
 
--- three pixels of the source, of 2 units each, and two of the target, of 3
+-- Three source pixels of 2 units each, and two target pixels of 3 units each.
 first_in_first : overlap 3 2 0 0 ≡ 2
 first_in_first = refl
 
@@ -26,18 +26,18 @@ sum_of_row = refl
 sum_of_area : area_sum one_byte two_rows 2 1 0 0 ≡ 170
 sum_of_area = refl
 
--- 170 / 6 is 28.3, and 250 / 6 is 41.7
+-- 170 / 6 is 28.3, and 250 / 6 is 41.7.
 mean : area_mean one_byte two_rows 2 1 0 0 ≡ 28
 mean = refl
 
 mean_beside : area_mean one_byte two_rows 2 1 1 0 ≡ 42
 mean_beside = refl
 
--- the middle one of three pixels covers the halves of two
+-- The middle one of three target pixels covers half of each of two source pixels.
 mean_between : area_mean one_byte ((10 ∷ 21 ∷ []) ∷ []) 3 1 1 0 ≡ 16
 mean_between = refl
 
--- four centers over seven pixels, and over two
+-- Four centers over seven source pixels, and over two.
 centers : nearest 7 4 0 ∷ nearest 7 4 1 ∷ nearest 7 4 2 ∷ nearest 7 4 3 ∷ []
     ≡ 0 ∷ 2 ∷ 4 ∷ 6 ∷ []
 centers = refl

@@ -1,25 +1,25 @@
-//! The pixels of the source that hold the centers of pixels of another size, one after the other.
+//! The source pixels that contain the centers of the target pixels, one after the other.
 ghost use Rattle.std.specs.Prelude.{◌≡◌, ◌+◌, ◌*◌, ◌/◌, ◌^◌, ◌<◌, ◌≤◌, ℕ};
 ghost use Rattle.v_frame_resize.specs.Centers.{IsCenter, CanAdvance};
 
-/// The pixel of the source that holds the center of a pixel of the target.
+/// The source pixel that contains the center of a target pixel.
 ///
-/// On a line of twice as many units as the product of both sizes, the center of pixel `x` is at `(2 * x + 1) * source`, and a
-/// pixel of the source covers `pixel` units. So no division is made from one center to the next.
+/// Positions are counted in units of which a source pixel has `pixel` and a target pixel has `2 * source`. The center of target
+/// pixel `x` is at `(2 * x + 1) * source`. With these units, stepping from one center to the next requires no division.
 #[derive(Clone, Copy)]
 pub struct Center {
-    /// The pixel of the source.
+    /// The index of the source pixel.
     pub index: usize,
-    /// The units from its edge to the center.
+    /// The number of units from the left edge of the source pixel to the center.
     pub rest: usize,
-    /// The units of a pixel of the source.
+    /// The number of units of a source pixel.
     pub pixel: usize,
-    /// The whole pixels from one center to the next, and the units that are left.
+    /// The number of whole source pixels from one center to the next. `step_rest` is the number of units that are left over.
     pub step: usize,
     pub step_rest: usize,
 }
 
-/// Returns the center of the first pixel.
+/// Returns the center of the first target pixel.
 pub fn first_center(source: usize, target: usize) -> Center
     requires some { 0 < target }
     requires countable { target < 2 ^ 62 }
@@ -36,7 +36,7 @@ pub fn first_center(source: usize, target: usize) -> Center
     }
 }
 
-/// Returns the center of the next pixel.
+/// Returns the center of the next target pixel.
 #[inline(always)]
 pub fn next_center(center: Center) -> Center
     requires { CanAdvance center }
@@ -58,10 +58,10 @@ pub fn next_center(center: Center) -> Center
     }
 }
 
-/// The parts of a pixel of the source in which centers are counted.
+/// The number of parts of a source pixel in which short rows count positions, 2^40.
 pub const PARTS: usize = 1099511627776;
 
-/// Returns half the parts from one center to the next, rounded up, or one more.
+/// Returns half the distance between two centers in parts of a source pixel, rounded down, plus 1.
 pub fn half_step(source: usize, target: usize) -> usize
     requires some { 0 < target }
     requires wide { target ≤ 65536 }

@@ -1,4 +1,4 @@
-//! Pictures in another size: by the exact mean of the area that a pixel covers, or by the nearest pixel.
+//! Pictures resized by the exact mean of the covered area (box filter) or by the nearest pixel (nearest neighbor).
 #![tactic(auto)]
 
 mod center;

@@ -1,4 +1,4 @@
-//! Resizing of planes. Borders stay.
+//! Planes resized. The padding stays unchanged.
 ghost use Rattle.std.specs.Prelude.{◌≡◌, ◌^◌, ◌<◌, ℕ, Some};
 ghost use Rattle.v_frame.specs.Prelude.{pixel_at, table_of, KeepsBorder};
 ghost use Rattle.v_frame_resize.specs.Resize.{area_mean, nearest, CanResize};
@@ -7,10 +7,12 @@ use crate::rows;
 use v_frame::pixel::Pixel;
 use v_frame::plane::{Plane, PlaneRef, VisibleMut};
 
-/// Shows in `target` what `source` shows, in the target's size: each pixel is the mean of the area that it covers, rounded to
-/// the nearest value and upwards at a half. The border of the target stays.
+/// Resizes `source` to the size of `target` with a box filter: each target pixel is the mean of the area of `source` that it
+/// covers. Source pixels that are covered only in part are weighted by the covered area. The padding of `target` stays
+/// unchanged.
 ///
-/// Pixels that are covered in part count in part. The mean is exact: nothing is rounded before.
+/// The mean is computed exactly, then rounded once to the nearest integer, halves up. The sizes must pass the test of
+/// [`can_resize`](crate::rows::can_resize).
 pub fn resize_area<T: Pixel>(source: &PlaneRef<'_, T>, target: &mut Plane<T>)
     requires { CanResize source.now.geometry.width source.now.geometry.height
         target.old.geometry.width target.old.geometry.height }
@@ -29,10 +31,12 @@ pub fn resize_area<T: Pixel>(source: &PlaneRef<'_, T>, target: &mut Plane<T>)
     rows::resize_area(&source, entries, width, height, stride);
 }
 
-/// Shows in `target` what `source` shows, in the target's size: each pixel is the one of the source that holds its center. The
-/// border of the target stays.
+/// Resizes `source` to the size of `target` by the nearest neighbor: each target pixel is the source pixel that contains its
+/// center. If the center lies between two source pixels, the right one or the lower one is used. The padding of `target` stays
+/// unchanged.
 ///
-/// Where the center is between two pixels, it is the one to the right, or below.
+/// The target pixel at column `x` is the source pixel at column `(2 * x + 1) * source_width / (2 * target_width)`, rounded
+/// down, and rows are chosen in the same way. All widths and heights are below 2^62.
 pub fn resize_nearest<T: Copy>(source: &PlaneRef<'_, T>, target: &mut Plane<T>)
     requires wide { target.old.geometry.width < 2 ^ 62 }
     requires high { target.old.geometry.height < 2 ^ 62 }

@@ -1,23 +1,24 @@
-//! The pixels of the source that a pixel of another size covers.
+//! The source pixels that a target pixel covers.
 ghost use Rattle.std.specs.Prelude.{◌≡◌, ◌+◌, ◌*◌, ◌^◌, ◌<◌, ◌≤◌};
 ghost use Rattle.v_frame_resize.specs.Spans.{IsFirst, IsSpan};
 
-/// What one pixel of the target covers on a line, where a pixel of the source has as many units as the target has pixels.
+/// The source pixels that one target pixel covers along one axis. Positions are counted in units: a source pixel has as many
+/// units as the target has pixels, and a target pixel has as many units as the source has pixels.
 ///
-/// It is a part of the pixel `first` of the source, all of those after it, and a part of the one before `stop`.
+/// The target pixel covers a part of the source pixel `first`, all pixels after it, and a part of the last pixel, `stop - 1`.
 #[derive(Clone, Copy)]
 pub struct Span {
-    /// The unit in front of which it ends.
+    /// The position in units at which the target pixel ends.
     pub end: usize,
     pub first: usize,
     pub stop: usize,
-    /// The units that it covers of the first pixel.
+    /// The number of units that it covers of the first source pixel.
     pub head: usize,
-    /// The units that it covers of the last pixel, which may be the first.
+    /// The number of units that it covers of the last source pixel, which may be the first one.
     pub tail: usize,
 }
 
-/// Returns the pixel of the source in which pixel `x` of the target begins.
+/// Returns the source pixel in which target pixel `x` begins.
 pub fn first_pixel(source: usize, target: usize, x: usize) -> usize
     requires some { 0 < source }
     requires within { x < target }
@@ -27,7 +28,7 @@ pub fn first_pixel(source: usize, target: usize, x: usize) -> usize
     x * source / target
 }
 
-/// Returns what pixel `x` of the target covers, which begins in the pixel `first` of the source.
+/// Returns the span of target pixel `x`, which begins in source pixel `first`.
 #[inline(always)]
 pub fn span_from(source: usize, target: usize, x: usize, first: usize) -> Span
     requires some { 0 < source }
@@ -48,7 +49,7 @@ pub fn span_from(source: usize, target: usize, x: usize, first: usize) -> Span
     }
 }
 
-/// Returns the pixel of the source in which the next pixel of the target begins.
+/// Returns the source pixel in which the next target pixel begins.
 #[inline(always)]
 pub fn next_first(source: usize, target: usize, x: usize, span: Span) -> usize
     requires countable { source * target < 2 ^ 64 }

@@ -1,4 +1,4 @@
--- Rows of colors, pixel by pixel, and pictures of them, row by row.
+-- Rows of colors, pixel by pixel, and pictures of such rows.
 use Rattle.std.proofs.Common.{ℕ, zero, suc, ◌≡◌, ◌+◌, ◌*◌, ◌≤◌, List, [], ◌∷◌, length, take}
 use Rattle.std.proofs.Common.{flat_map, Some, slice_get, refl, ◌∙◌, ap, arith, append-nil}
 use Rattle.std.proofs.lemmas.Grind.{flat_map-append}
@@ -10,7 +10,7 @@ use Rattle.v_frame_rgb.specs.Colors.{colors_by, color_rows_by}
 use Rattle.v_frame_rgb.specs.declared.color.Color.{Color}
 use borrow.Rule.Slice.PartMut.{put_mid}
 
--- a loop that writes the bytes of one item after the other, each so many, one step on
+-- The loop step of a loop that writes the bytes of one item after the other, each with `size` bytes.
 pub one_more_item : {X : Type 0} (make : X → List ℕ) (size : ℕ) → ((c : X) → length (make c) ≡ size)
     → (items : List X) (out part : List ℕ) (x : ℕ) (c : X)
     → slice_get items x ≡ Some c → part ≡ make c → size * x ≤ length out
@@ -31,7 +31,7 @@ one_more_item make size as_long items out part x c is bytes room so_far =
     )
 
 module _ {T : Type 0} (color : T → T → T → Color) where
-  -- the color of a pixel is made of its three samples
+  -- The color of a pixel is computed from its three samples.
   pub slice_get-colors_by : (ys us vs : List T) (x : ℕ) (y u v : T) → slice_get ys x ≡ Some y → slice_get us x ≡ Some u
       → slice_get vs x ≡ Some v → slice_get (colors_by color ys us vs) x ≡ Some (color y u v)
   slice_get-colors_by (y' ∷ ys) (u' ∷ us) (v' ∷ vs) zero y u v is is1 is2 =

@@ -1,4 +1,4 @@
--- Whole coefficients are near the standards'.
+-- The integer coefficients are near the fractions of the standards.
 use Rattle.std.proofs.Common.{ℕ, ◌<◌, arith}
 use Rattle.v_frame_rgb.specs.Laws.{RedIsNear, GreenIsNear, BlueIsNear}
 use Rattle.v_frame_rgb.specs.declared.standard.Standard.{Standard}

@@ -1,4 +1,4 @@
--- Exact sums as whole numbers over one denominator.
+-- Exact sums as integers with a common denominator.
 use Rattle.std.proofs.Common.{ℕ, ◌≡◌, ◌+◌, ◌-◌, ◌*◌, ◌/◌, ◌^◌, ◌<◌, ◌≤◌, min, inl, inr, refl, sym, ◌∙◌, ap, arith}
 use Rattle.std.proofs.Math.Nat.{div-eq_of_lt-le, div-mul-le_self, lt-div-mul-add, mul-le-mul_left, mul-pos}
 use Rattle.std.proofs.lemmas.Bool.{cases_lt}
@@ -14,7 +14,7 @@ use Rattle.v_frame_rgb.specs.declared.whole_steps.WholeSteps.{WholeSteps}
 pub weighed_below : (a b : ℕ) → a < 2 ^ 43 → b < 2 ^ 16 → a * b < 2 ^ 59
 weighed_below a b low few = mul-lt a b (2 ^ 43) (2 ^ 16) low few
 
--- ---- a rounded quotient stays where all is multiplied
+-- ---- a rounded quotient is unchanged if the dividend and the divisor are multiplied by the same number
 
 module _ (k s b d q h : ℕ) (half : h ≡ s / 2) where
   quotient_low : q * s + d ≤ b + h → q * (k * s) ≤ k * b + (k * s) / 2 - k * d
@@ -54,7 +54,7 @@ sample_scaled k s b d some positive =
 same_sample : (s s' b b' d d' : ℕ) → s ≡ s' → b ≡ b' → d ≡ d' → sample_of s b d ≡ sample_of s' b' d'
 same_sample s s' b b' d d' scale bright dark = cc
 
--- ---- parts of a scale
+-- ---- fractions as parts of a scale
 
 module _ (scale : ℕ) where
   times_part : (count n : ℕ) (f : Fraction) → IsPart scale count f → IsPart scale (count * n) (times f n)

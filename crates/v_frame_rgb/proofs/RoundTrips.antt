@@ -1,4 +1,4 @@
--- Colors that become samples and colors again come back near, by bounds on each step.
+-- A color that is converted to samples and back stays near the original, by a bound on each step.
 use Rattle.std.proofs.Common.{ℕ, ◌+◌, ◌*◌, ◌<◌, ◌≤◌, arith}
 use Rattle.std.specs.Int.{abs_diff}
 use Rattle.v_frame_rgb.specs.Colors.{sample_of, color_scale, sample_scale, rgb_matrix_of, yuv_matrix_of}
@@ -11,7 +11,7 @@ use Rattle.v_frame_rgb.specs.declared.standard.ColorRange.{ColorRange}
 use Rattle.v_frame_rgb.specs.declared.standard.ColorRange.TheVariants.{Limited, Full}
 use Rattle.v_frame_rgb.specs.declared.color.Color.{Color}
 
--- a sample times its scale is within half a scale of the difference
+-- A sample times its scale differs from the exact difference by at most half of the scale.
 pub record IsRounded (bright dark sample : ℕ) : Type 0 where
   pub low : sample_scale * sample + dark ≤ bright + 32768
   pub high : bright + 32768 ≤ dark + sample_scale * sample + sample_scale
@@ -20,13 +20,13 @@ rounded : (bright dark : ℕ) → dark ≤ bright + 32768 → bright + 32768 ≤
     → IsRounded bright dark (sample_of sample_scale bright dark)
 rounded bright dark low high = record { low = omega arith; high = omega arith }
 
--- a channel that is within some steps before it is rounded and clamped is so after
+-- If a channel is near the original before it is rounded and clipped, it is as near afterwards.
 within : (steps channel bright dark : ℕ) → channel < 256 → bright + 8192 < dark + color_scale * (channel + steps + 1)
     → dark + color_scale * channel ≤ bright + 8192 + color_scale * steps
     → abs_diff (sample_of color_scale bright dark) channel ≤ steps
 within steps channel bright dark byte high low = omega arith
 
--- no sample of a color is cut off by more than it is rounded
+-- Clipping changes no sample of a color by more than rounding does.
 
 y_rounded : (standard : Standard) (range : ColorRange) (color : Color) → HasBytes color
     → let m = yuv_matrix_of standard range in IsRounded (y_bright m color) 0 (y_of m color)
@@ -55,7 +55,7 @@ v_rounded Bt709 Full color bytes = rounded _ _ (omega arith) (omega arith)
 v_rounded Bt2020 Limited color bytes = rounded _ _ (omega arith) (omega arith)
 v_rounded Bt2020 Full color bytes = rounded _ _ (omega arith) (omega arith)
 
--- samples that are near those of a color
+-- Samples that are near the samples of a color.
 pub record AreNear (standard : Standard) (range : ColorRange) (color : Color) (y u v : ℕ) : Type 0 where
   pub luma : IsRounded (y_bright (yuv_matrix_of standard range) color) 0 y
   pub chroma_u : IsRounded (u_bright (yuv_matrix_of standard range) color) (u_dark (yuv_matrix_of standard range)

@@ -1,4 +1,4 @@
--- Whole coefficients are near the standards': towards samples.
+-- The integer coefficients are near the fractions of the standards, for the conversion to samples.
 use Rattle.std.proofs.Common.{arith}
 use Rattle.v_frame_rgb.specs.Laws.{HasBytes, LumaIsNear, ChromaUIsNear, ChromaVIsNear}
 use Rattle.v_frame_rgb.specs.declared.standard.Standard.{Standard}

@@ -1,4 +1,4 @@
--- Rows of samples, pixel by pixel, and pictures of them, row by row.
+-- Rows of samples, pixel by pixel, and pictures of such rows.
 use Rattle.std.proofs.Common.{ℕ, ◌≡◌, ◌+◌, ◌*◌, ◌<◌, List, [], ◌∷◌, length, take, drop, map, set, refl, arith}
 use Rattle.std.proofs.Common.{◌-◌, Some, slice_get, ◌∙◌, length-take-le, length-drop}
 use Rattle.std.proofs.lemmas.List.{map-append, take_more_set}
@@ -11,7 +11,7 @@ use Rattle.v_frame_rgb.specs.Colors.{colors_in, sample_rows}
 use Rattle.v_frame_rgb.specs.declared.color.Color.{Color}
 use borrow.Rule.Slice.PartMut.{put_mid}
 
--- a loop that writes the sample of one color after the other, one step on
+-- The loop step of a loop that writes the samples of one color after the other.
 pub one_more_sample : (sample : Color → ℕ) (color_at : List ℕ → Color) (size : ℕ) (bytes out : List ℕ) (x s : ℕ)
     → x < length out → s ≡ sample (color_at (take size (drop (size * x) bytes)))
     → take x out ≡ map sample (colors_in color_at size x bytes)
@@ -27,7 +27,7 @@ one_more_sample sample color_at size bytes out x s room is so_far =
       is,
     )
 
--- a loop that writes a row of samples after the other, one step on
+-- The loop step of a loop that writes one row of samples after the other.
 pub one_more_sample_row : (sample : Color → ℕ) (color_at : List ℕ → Color) (size width height stride : ℕ)
     (source : Table ℕ) (old now row colors : List ℕ) (k : ℕ)
     → RowsFit width height stride (length old) → k < height → length now ≡ length old

@@ -1,4 +1,4 @@
--- The whole steps of each standard are its steps, and small.
+-- The integer steps of each standard equal its fractions, and they are small.
 use Rattle.std.proofs.Common.{ℕ, ◌≡◌, ◌-◌, ◌*◌, ◌^◌, ◌<◌, ◌≤◌, arith}
 use Rattle.std.proofs.Math.Nat.{pow-le-pow_right}
 use Rattle.std.proofs.lemmas.Nat.{pow_pos}

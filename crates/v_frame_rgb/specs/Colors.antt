@@ -1,4 +1,4 @@
--- What color a sample of luma and two of chroma make, and what samples a color makes, by whole
+-- The color of three Y'CbCr samples, and the samples of a color, computed with integer
 -- coefficients.
 use Rattle.std.specs.Prelude.{ℕ, ◌+◌, ◌-◌, ◌*◌, ◌/◌, List, [], ◌∷◌, flat_map, map, min}
 use Rattle.v_frame_raster.specs.Table.{Table, cut_rows}
@@ -11,20 +11,19 @@ use Rattle.v_frame_rgb.specs.declared.color.Color.{Color}
 use Rattle.v_frame_rgb.specs.declared.matrix.RgbMatrix.{RgbMatrix}
 use Rattle.v_frame_rgb.specs.declared.matrix.YuvMatrix.{YuvMatrix}
 
--- the whole number nearest to (bright - dark) / scale, as a sample: 0 where it is below 0, and 255
--- where it is above
+-- (bright - dark) / scale, rounded to the nearest integer, halves up, and clipped to 0..255.
 abbrev pub sample_of : ℕ → ℕ → ℕ → ℕ
 sample_of scale bright dark = min ((bright + scale / 2 - dark) / scale) 255
 
--- coefficients towards colors are counted in parts of 2 ^ 14, and towards samples in parts of
--- 2 ^ 16: so each fits 16 bits
+-- Coefficients for colors are in units of 2 ^ -14, and coefficients for samples in units of 2 ^
+-- -16. With these units each coefficient fits 16 bits.
 abbrev pub color_scale : ℕ
 color_scale = 16384
 
 abbrev pub sample_scale : ℕ
 sample_scale = 65536
 
--- the coefficients of a standard
+-- The coefficients of a standard: for each direction, the integers nearest to its fractions.
 abbrev pub rgb_matrix_of : Standard → ColorRange → RgbMatrix
 rgb_matrix_of standard range =
     let levels : Levels = levels_of range in
@@ -55,8 +54,8 @@ yuv_matrix_of standard range =
       v_blue = whole steps.v_blue;
     }
 
--- what is added and what is taken away for each channel of a color. A sample of luma counts from
--- black, and one of chroma from gray
+-- The positive and the negative part of each channel of a color. Luma is counted from black, and
+-- chroma from gray.
 module _ (m : RgbMatrix) (y u v : ℕ) where
   abbrev pub red_bright : ℕ
   red_bright = m.luma * y + m.red_v * v
@@ -83,7 +82,7 @@ module _ (m : RgbMatrix) (y u v : ℕ) where
     blue = sample_of color_scale blue_bright blue_dark;
   }
 
--- the samples of a color
+-- The samples of a color, with their positive and negative parts.
 module _ (m : YuvMatrix) (color : Color) where
   abbrev pub y_bright : ℕ
   y_bright =
@@ -111,19 +110,20 @@ module _ (m : YuvMatrix) (color : Color) where
   abbrev pub v_of : ℕ
   v_of = sample_of sample_scale v_bright v_dark
 
--- the colors of a row of luma and two of chroma, and of a picture, where three samples make a color
+-- The colors of a row of luma and two rows of chroma, and of a picture. `color` is the color of
+-- three samples.
 module _ {T : Type 0} (color : T → T → T → Color) where
   abbrev pub colors_by : List T → List T → List T → List Color
   colors_by (y ∷ ys) (u ∷ us) (v ∷ vs) = color y u v ∷ colors_by ys us vs
   colors_by ys us vs = []
 
-  -- the bytes of these colors, row by row, where a color has those that are given
+  -- The bytes of these colors, row by row. `bytes_of` lists the bytes of a color.
   abbrev pub color_rows_by : (Color → List ℕ) → Table T → Table T → Table T → Table ℕ
   color_rows_by bytes_of (ys ∷ y_rows) (us ∷ u_rows) (vs ∷ v_rows) =
       flat_map bytes_of (colors_by ys us vs) ∷ color_rows_by bytes_of y_rows u_rows v_rows
   color_rows_by bytes_of y_rows u_rows v_rows = []
 
--- the same by coefficients
+-- The colors of a row and the bytes of a picture, computed with integer coefficients.
 abbrev pub colors_of : RgbMatrix → List ℕ → List ℕ → List ℕ → List Color
 colors_of m ys us vs = colors_by (color_of m) ys us vs
 
@@ -131,11 +131,11 @@ abbrev pub color_rows : RgbMatrix → (Color → List ℕ) → Table ℕ → Tab
 color_rows m bytes_of y_rows u_rows v_rows =
     color_rows_by (color_of m) bytes_of y_rows u_rows v_rows
 
--- the colors of the first pixels of a row of bytes, of which so many hold one color
+-- The colors of the first `count` pixels of a row of bytes, in which each color has `size` bytes.
 abbrev pub colors_in : (List ℕ → Color) → ℕ → ℕ → List ℕ → List Color
 colors_in color_at size count bytes = map color_at (cut_rows size count bytes)
 
--- what each color of a picture makes, row by row
+-- The samples of the colors of a picture, row by row.
 abbrev pub sample_rows : (Color → ℕ) → (List ℕ → Color) → ℕ → ℕ → Table ℕ → Table ℕ
 sample_rows sample color_at size width rows =
     map (λ row. map sample (colors_in color_at size width row)) rows

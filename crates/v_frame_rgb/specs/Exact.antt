@@ -1,5 +1,5 @@
--- What color samples of any bit depth make, by the standards' own fractions: each channel is an
--- exact sum, and is rounded once.
+-- The color of three samples of any bit depth by the fractions of a standard. Each channel is
+-- computed exactly and rounded once.
 use Rattle.std.specs.Prelude.{ℕ, ◌+◌, ◌-◌, ◌*◌, ◌^◌, List}
 use Rattle.v_frame.specs.Prelude.{PixelForm}
 use Rattle.v_frame_raster.specs.Table.{Table}
@@ -11,8 +11,8 @@ use Rattle.v_frame_rgb.specs.declared.standard.Standard.{Standard}
 use Rattle.v_frame_rgb.specs.declared.standard.ColorRange.{ColorRange}
 use Rattle.v_frame_rgb.specs.declared.standard.ColorRange.TheVariants.{Limited, Full}
 
--- the levels of a bit depth: in limited range those of 8 bits times 2 ^ (depth - 8), and in full
--- range all values
+-- The levels at a bit depth. In limited range they are those of 8 bits, multiplied by
+-- 2 ^ (depth - 8). In full range they are all values.
 abbrev pub levels_at : ColorRange → ℕ → Levels
 levels_at Limited depth =
     let unit = 2 ^ (depth - 8) in
@@ -20,28 +20,28 @@ levels_at Limited depth =
 levels_at Full depth =
     let most = 2 ^ depth - 1 in record { black = 0; luma = most; chroma = most }
 
--- the chroma sample of gray
+-- The chroma sample of gray.
 abbrev pub gray_at : ℕ → ℕ
 gray_at depth = 2 ^ (depth - 1)
 
--- a fraction so many times, and the sum of two
+-- A multiple of a fraction, and the sum of two fractions.
 abbrev pub times : Fraction → ℕ → Fraction
 times f count = fraction (f.over * count) f.under
 
 abbrev pub plus : Fraction → Fraction → Fraction
 plus f g = fraction (f.over * g.under + g.over * f.under) (f.under * g.under)
 
--- the whole number nearest to the difference of two fractions, as a sample: 0 where it is below 0,
--- and 255 where it is above
+-- The difference of two fractions, rounded to the nearest integer, halves up, and clipped to
+-- 0..255.
 abbrev pub sample_nearest : Fraction → Fraction → ℕ
 sample_nearest f g = sample_of (f.under * g.under) (f.over * g.under) (g.over * f.under)
 
 module _ (standard : Standard) (range : ColorRange) (depth : ℕ) where
-  -- how much of a color one step of luma, of Cb or of Cr makes
+  -- The change of a color for one step of luma, Cb or Cr.
   abbrev pub steps_at : ColorSteps
   steps_at = color_steps (weights_of standard) (levels_at range depth)
 
-  -- a channel: luma above black, with what chroma adds and without what it takes away
+  -- A channel: the luma above black, plus `more` and minus `less` for the chroma.
   abbrev pub exact_channel : ℕ → Fraction → Fraction → ℕ
   exact_channel y more less =
       sample_nearest (plus (times steps_at.luma y) more)
@@ -62,20 +62,20 @@ module _ (standard : Standard) (range : ColorRange) (depth : ℕ) where
     exact_blue =
         exact_channel y (times steps_at.blue_u u) (times steps_at.blue_u (gray_at depth))
 
-    -- the color of a sample of luma, one of Cb and one of Cr
+    -- The color of a luma sample, a Cb sample and a Cr sample.
     unfoldable pub exact_color : Color
     exact_color = record { red = exact_red; green = exact_green; blue = exact_blue }
 
   module _ {T : Type 0} (form : PixelForm T) where
-    -- the same of pixels
+    -- The color of a luma pixel, a Cb pixel and a Cr pixel.
     unfoldable pub exact_of_pixels : T → T → T → Color
     exact_of_pixels y u v = exact_color (form.value y) (form.value u) (form.value v)
 
-    -- the colors of a row of luma and two of chroma
+    -- The colors of a row of luma and two rows of chroma.
     abbrev pub exact_colors : List T → List T → List T → List Color
     exact_colors ys us vs = colors_by exact_of_pixels ys us vs
 
-    -- the bytes of the colors of a picture, row by row, where a color has those that are given
+    -- The bytes of the colors of a picture, row by row. `bytes_of` lists the bytes of a color.
     abbrev pub exact_color_rows : (Color → List ℕ) → Table T → Table T → Table T → Table ℕ
     exact_color_rows bytes_of y_rows u_rows v_rows =
         color_rows_by exact_of_pixels bytes_of y_rows u_rows v_rows

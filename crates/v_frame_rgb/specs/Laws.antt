@@ -1,4 +1,5 @@
--- How near whole coefficients come to the standards', as differences over common denominators.
+-- The distance between the integer coefficients and the fractions of the standards, stated as
+-- differences over common denominators.
 use Rattle.std.specs.Prelude.{ℕ, ◌+◌, ◌*◌, ◌<◌, ◌≤◌}
 use Rattle.std.specs.Int.{abs_diff}
 use Rattle.v_frame_rgb.specs.Standards.{Fraction, ColorSteps, Levels, color_steps, weights_of}
@@ -12,12 +13,12 @@ use Rattle.v_frame_rgb.specs.declared.standard.Standard.{Standard}
 use Rattle.v_frame_rgb.specs.declared.standard.ColorRange.{ColorRange}
 use Rattle.v_frame_rgb.specs.declared.standard.ColorRange.TheVariants.{Limited, Full}
 
--- (bright - dark) / scale is no further than a hundredth from (over - less) / under
+-- (bright - dark) / scale and (over - less) / under differ by at most 0.01.
 abbrev pub IsWithinHundredth : ℕ → ℕ → ℕ → ℕ → ℕ → ℕ → Type 0
 IsWithinHundredth scale bright dark under over less =
     100 * abs_diff (under * bright + scale * less) (under * dark + scale * over) ≤ scale * under
 
--- a color as the standard has it: f (y - black) + g (c - gray) for one sample of chroma
+-- A color by the fractions of the standard: f (y - black) + g (c - gray) for one chroma sample c.
 module _ (standard : Standard) (range : ColorRange) where
   abbrev steps : ColorSteps
   steps = color_steps (weights_of standard) (levels_of range)
@@ -56,19 +57,19 @@ module _ (standard : Standard) (range : ColorRange) where
         (y_part * y + (u_part * gray + v_part * gray))
         (y_part * levels.black + (u_part * u + v_part * v))
 
--- a color whose channels are bytes
+-- A color whose channels are bytes.
 pub record HasBytes (color : Color) : Type 0 where
   pub red : color.red < 256
   pub green : color.green < 256
   pub blue : color.blue < 256
 
--- a sample as the standard has it: an offset, and what each channel of a color adds to it or takes
--- away
+-- A sample by the fractions of the standard: an offset, to which each channel of the color adds a
+-- product, or from which it subtracts one.
 module _ (standard : Standard) (range : ColorRange) (color : Color) where
   abbrev parts : SampleSteps
   parts = sample_steps (weights_of standard) (levels_of range)
 
-  -- what a channel counts for, over a common denominator with two other fractions
+  -- The product of a fraction and a channel, over a common denominator with two other fractions.
   abbrev part : Fraction → Fraction → Fraction → ℕ → ℕ
   part f g h channel = f.over * g.under * h.under * channel
 
@@ -103,19 +104,19 @@ module _ (standard : Standard) (range : ColorRange) (color : Color) where
       (part parts.v_green parts.v_red parts.v_blue color.green
       + part parts.v_blue parts.v_red parts.v_green color.blue)
 
--- how far blue comes back at most
+-- The largest difference in blue after a conversion to samples and back.
 abbrev pub blue_loss : ColorRange → ℕ
 blue_loss Limited = 2
 blue_loss Full = 1
 
--- a color that became samples of 8 bits, which became a color again, is off by at most 1 in red and
--- green
+-- A color was converted to 8-bit samples and back. Red and green differ by at most 1, and blue by
+-- at most `blue_loss`.
 pub record ComesBack (range : ColorRange) (color back : Color) : Type 0 where
   pub red : abs_diff back.red color.red ≤ 1
   pub green : abs_diff back.green color.green ≤ 1
   pub blue : abs_diff back.blue color.blue ≤ blue_loss range
 
--- the color of the samples of a color
+-- The color of the samples of a color.
 abbrev pub and_back : Standard → ColorRange → Color → Color
 and_back standard range color =
     let m = yuv_matrix_of standard range in

@@ -1,4 +1,4 @@
--- The words that callers' clauses cite, re-exported from one place.
+-- The definitions that contracts of other crates use, re-exported from one module.
 pub use Rattle.v_frame_rgb.specs.Standards.{Weights, Levels, Fraction, ColorSteps, SampleSteps}
 pub use Rattle.v_frame_rgb.specs.Standards.{weights_of}
 pub use Rattle.v_frame_rgb.specs.Standards.{green_weight, levels_of, gray, nearest, color_steps}
@@ -20,7 +20,7 @@ use Rattle.v_frame_rgb.specs.declared.matrix.YuvMatrix.{YuvMatrix as TheYuvMatri
 use Rattle.v_frame_rgb.specs.declared.standard.Standard.{Standard as TheStandard}
 use Rattle.v_frame_rgb.specs.declared.standard.ColorRange.{ColorRange as TheColorRange}
 
--- the types of this crate
+-- The types of this crate.
 abbrev pub Color : Type 0
 Color = TheColor
 

@@ -1,17 +1,17 @@
--- The standards' conversions between Y'CbCr and R'G'B' as exact fractions, for samples of 8 bits,
--- and the whole coefficients nearest to them.
+-- The conversions of the standards between Y'CbCr and R'G'B' as exact fractions for 8-bit samples,
+-- and the integer coefficients nearest to them.
 use Rattle.std.specs.Prelude.{ℕ, ◌+◌, ◌-◌, ◌*◌, ◌/◌}
 use Rattle.v_frame_rgb.specs.declared.standard.Standard.{Standard}
 use Rattle.v_frame_rgb.specs.declared.standard.Standard.TheVariants.{Bt601, Bt709, Bt2020}
 use Rattle.v_frame_rgb.specs.declared.standard.ColorRange.{ColorRange}
 use Rattle.v_frame_rgb.specs.declared.standard.ColorRange.TheVariants.{Limited, Full}
 
--- what red and blue count for in luma, in parts of 10000: Kr and Kb. Green counts for the rest
+-- The weights of red (Kr) and blue (Kb) in luma, in units of 1/10000. Green has the rest.
 pub record Weights : Type 0 where
   pub red : ℕ
   pub blue : ℕ
 
--- ITU-R BT.601-7, BT.709-6 and BT.2020-2
+-- ITU-R BT.601-7, BT.709-6 and BT.2020-2.
 abbrev pub weights_of : Standard → Weights
 weights_of Bt601 = record { red = 2990; blue = 1140 }
 weights_of Bt709 = record { red = 2126; blue = 722 }
@@ -20,8 +20,8 @@ weights_of Bt2020 = record { red = 2627; blue = 593 }
 abbrev pub green_weight : Weights → ℕ
 green_weight k = 10000 - k.red - k.blue
 
--- the sample of black, and how many steps there are from black to white, and between the
--- strongest chroma samples. A color has 255 steps from 0 to the strongest
+-- The luma sample of black, the number of luma steps from black to white, and the number of chroma
+-- steps from the smallest to the largest chroma sample. A channel of a color has 255 steps.
 pub record Levels : Type 0 where
   pub black : ℕ
   pub luma : ℕ
@@ -31,7 +31,7 @@ abbrev pub levels_of : ColorRange → Levels
 levels_of Limited = record { black = 16; luma = 219; chroma = 224 }
 levels_of Full = record { black = 0; luma = 255; chroma = 255 }
 
--- the chroma sample of gray
+-- The chroma sample of gray.
 abbrev pub gray : ℕ
 gray = 128
 
@@ -42,11 +42,11 @@ pub record Fraction : Type 0 where
 abbrev pub fraction : ℕ → ℕ → Fraction
 fraction over under = record { over = over; under = under }
 
--- the whole number nearest to a fraction times a scale
+-- The integer nearest to a fraction multiplied by a scale.
 abbrev pub nearest : ℕ → Fraction → ℕ
 nearest scale f = (2 * (scale * f.over) + f.under) / (2 * f.under)
 
--- how much of a color one step of luma, of Cb or of Cr makes; the two of green are taken away
+-- The change of a color for one step of luma, Cb or Cr. The two steps of green are subtracted.
 pub record ColorSteps : Type 0 where
   pub luma : Fraction
   pub red_v : Fraction
@@ -65,8 +65,8 @@ color_steps k levels = record {
   blue_u = fraction (2 * (10000 - k.blue) * 255) (10000 * levels.chroma);
 }
 
--- how much of luma, of Cb and of Cr one step of a color makes: to Cb blue is added, and red and
--- green are taken away, and to Cr red is added
+-- The change of luma, Cb and Cr for one step of a color. For Cb, blue is added, and red and green
+-- are subtracted. For Cr, red is added, and green and blue are subtracted.
 pub record SampleSteps : Type 0 where
   pub y_red : Fraction
   pub y_green : Fraction

@@ -1,4 +1,4 @@
--- The steps of the standards as whole numbers over one denominator.
+-- The steps of the standards as integers with a common denominator.
 use Rattle.std.specs.Prelude.{ℕ, ◌≡◌, ◌-◌, ◌*◌, ◌^◌, ◌<◌}
 use Rattle.v_frame_rgb.specs.Standards.{ColorSteps, Fraction, Weights, green_weight, weights_of}
 use Rattle.v_frame_rgb.specs.declared.standard.Standard.{Standard}
@@ -6,7 +6,8 @@ use Rattle.v_frame_rgb.specs.declared.standard.ColorRange.{ColorRange}
 use Rattle.v_frame_rgb.specs.declared.standard.ColorRange.TheVariants.{Limited, Full}
 use Rattle.v_frame_rgb.specs.declared.whole_steps.WholeSteps.{WholeSteps}
 
--- in what the levels of a bit depth are counted, and how many of them luma and chroma have
+-- The unit in which the levels at a bit depth are counted, and the numbers of units of luma and
+-- chroma.
 abbrev pub unit_at : ColorRange → ℕ → ℕ
 unit_at Limited depth = 2 ^ (depth - 8)
 unit_at Full depth = 2 ^ depth - 1
@@ -19,7 +20,7 @@ abbrev pub chroma_units : ColorRange → ℕ
 chroma_units Limited = 224
 chroma_units Full = 1
 
--- the steps in parts of a scale times such a unit
+-- The steps as integers. Their common denominator is `scale` times the unit.
 abbrev pub whole_steps_of : Standard → ColorRange → WholeSteps
 whole_steps_of standard range =
     let k : Weights = weights_of standard in
@@ -34,7 +35,7 @@ whole_steps_of standard range =
       blue_u = 2 * (10000 - k.blue) * 255 * green * luma;
     }
 
--- so many parts of a scale are a fraction
+-- `count / scale` equals the fraction.
 pub record IsPart (scale count : ℕ) (f : Fraction) : Type 0 where
   pub some : 0 < f.under
   pub same : scale * f.over ≡ count * f.under
@@ -47,7 +48,7 @@ pub record AreSteps (steps : ColorSteps) (scale : ℕ) (whole : WholeSteps) : Ty
   pub green_v : IsPart scale whole.green_v steps.green_v
   pub blue_u : IsPart scale whole.blue_u steps.blue_u
 
--- sums of samples that are counted in these fit 64 bits
+-- These numbers are so small that sums of weighted samples fit 64 bits.
 pub record AreSmall (scale : ℕ) (whole : WholeSteps) : Type 0 where
   pub denominator : scale < 2 ^ 59
   pub luma : whole.luma < 2 ^ 43

@@ -1,4 +1,4 @@
--- Colors and samples worked out by hand. Each line computes: it is proved by `refl`.
+-- Colors and samples computed by hand. Each line is proved by computation (`refl`).
 use Rattle.std.specs.Prelude.{ℕ, ◌≡◌, [], ◌∷◌, refl}
 use Rattle.v_frame_rgb.specs.Colors.{rgb_matrix_of, yuv_matrix_of, color_of, y_of, u_of, v_of}
 use Rattle.v_frame_rgb.specs.Colors.{color_rows}
@@ -9,7 +9,7 @@ use Rattle.v_frame_rgb.specs.declared.standard.ColorRange.TheVariants.{Limited, 
 abbrev the_color : ℕ → ℕ → ℕ → Color
 the_color red green blue = record { red = red; green = green; blue = blue }
 
--- BT.601, limited range: 255 / 219, 1.402 * 255 / 224, and so on, in parts of 16384
+-- BT.601, limited range: 255 / 219, 1.402 * 255 / 224, and so on, in units of 1/16384.
 coefficients : rgb_matrix_of Bt601 Limited
     ≡ record {
       black = 16;
@@ -21,7 +21,7 @@ coefficients : rgb_matrix_of Bt601 Limited
     }
 coefficients = refl
 
--- BT.2020, full range: 2 * (1 - 0.2627) = 1.4746 and 2 * (1 - 0.0593) = 1.8814
+-- BT.2020, full range: 2 * (1 - 0.2627) = 1.4746 and 2 * (1 - 0.0593) = 1.8814.
 of_full_range : rgb_matrix_of Bt2020 Full
     ≡ record {
       black = 0;
@@ -78,7 +78,7 @@ chroma_u_of_orange = refl
 chroma_v_of_orange : v_of (yuv_matrix_of Bt709 Limited) (the_color 255 128 0) ≡ 189
 chroma_v_of_orange = refl
 
--- two rows of two pixels, whose bytes are red, green and blue
+-- Two rows of two pixels, with the bytes red, green and blue.
 picture : color_rows (rgb_matrix_of Bt601 Limited) (λ c. c.red ∷ c.green ∷ c.blue ∷ [])
     ((235 ∷ 81 ∷ []) ∷ (16 ∷ 235 ∷ []) ∷ []) ((128 ∷ 90 ∷ []) ∷ (128 ∷ 128 ∷ []) ∷ [])
     ((128 ∷ 240 ∷ []) ∷ (128 ∷ 128 ∷ []) ∷ [])

@@ -1,8 +1,8 @@
-//! Colors of 8 bits a channel, and the orders in which pictures store them.
+//! Colors with 8 bits for each channel, and the byte orders in which pictures store them.
 ghost use Rattle.std.specs.Prelude.{◌≡◌, ℕ, ◌<◌, List, [], ◌∷◌, length, slice_index, refl};
 ghost use Rattle.std.proofs.Common.{lit<};
 
-/// A color of 8 bits a channel.
+/// A color with 8 bits each for red, green and blue.
 #[derive(Debug, Clone, Copy, PartialEq, Eq)]
 pub struct Color {
     pub red: u8,
@@ -11,7 +11,7 @@ pub struct Color {
 }
 
 mod sealed {
-    /// No type outside this crate can be an order.
+    /// Types outside this crate cannot implement [`ColorOrder`](super::ColorOrder).
     pub trait Sealed {}
 
     impl Sealed for super::Rgb {}
@@ -23,49 +23,51 @@ mod sealed {
     impl Sealed for super::Bgra {}
 }
 
-/// How the bytes of a pixel hold its color.
+/// The order in which the bytes of a pixel store its color.
 pub trait ColorOrder: sealed::Sealed {
     ghost use Rattle.v_frame_rgb.specs.declared.color.Color.{Color};
 
     ghost BYTES: { ℕ };
 
-    // The bytes of a color, and the color that bytes hold.
+    // The bytes of a color, and the color that some bytes store.
     ghost bytes_of: { Color → List ℕ };
 
     ghost color_at: { List ℕ → Color };
 
-    /// Bytes of one pixel.
+    /// The number of bytes of one pixel: 3 for [`Rgb`] and [`Bgr`], 4 for [`Rgba`] and [`Bgra`].
     const BYTES: usize;
 
-    /// Writes a color into the bytes of a pixel, [`BYTES`](Self::BYTES) of them. With others it may panic, or write a part.
+    /// Writes `color` to the bytes of a pixel. `pixel` must have [`BYTES`](Self::BYTES) bytes. With another length the function
+    /// may panic or write only some of the bytes.
     fn write(pixel: &mut [u8], color: Color)
         requires { length pixel.old ≡ BYTES }
         ensures { pixel.new ≡ bytes_of color };
 
-    /// Returns the color of a pixel of [`BYTES`](Self::BYTES) bytes. With others it may panic, or read a part.
+    /// Returns the color of a pixel. `pixel` must have [`BYTES`](Self::BYTES) bytes. With another length the function may panic
+    /// or read only some of the bytes.
     fn read(pixel: &[u8]) -> Color
         requires { length pixel.now ≡ BYTES }
         ensures { result ≡ color_at pixel.now };
 
     ghost some_bytes: { 0 < BYTES };
 
-    // A color has so many bytes.
+    // A color is stored in this number of bytes.
     ghost length_of_bytes: { (color : Color) → length (bytes_of color) ≡ BYTES };
 
-    // What is written is read.
+    // Reading the bytes of a color returns the color.
     ghost color_of_bytes: { (color : Color) → color_at (bytes_of color) ≡ color };
 }
 
-/// Red, green, blue.
+/// Three bytes: red, green, blue.
 pub struct Rgb;
 
-/// Blue, green, red.
+/// Three bytes: blue, green, red.
 pub struct Bgr;
 
-/// Red, green, blue, and 255 for opaque. The fourth byte isn't read.
+/// Four bytes: red, green, blue, alpha. The alpha byte is written as 255 (opaque) and ignored when read.
 pub struct Rgba;
 
-/// Blue, green, red, and 255 for opaque. The fourth byte isn't read.
+/// Four bytes: blue, green, red, alpha. The alpha byte is written as 255 (opaque) and ignored when read.
 pub struct Bgra;
 
 impl ColorOrder for Rgb {

@@ -1,4 +1,4 @@
-//! Conversions of planes.
+//! Conversions between planes of Y'CbCr samples and packed R'G'B' pictures.
 ghost use Rattle.std.specs.Prelude.{◌≡◌, ◌*◌, length};
 ghost use Rattle.v_frame.specs.Prelude.{strided_rows, table_of, width_of, height_of, KeepsBorder, KeepsRest, RowsFit};
 ghost use Rattle.v_frame_rgb.specs.Colors.{color_rows, sample_rows, y_of, u_of, v_of};
@@ -9,9 +9,11 @@ use crate::rows;
 use crate::sample::Channel;
 use v_frame::plane::{Plane, PlaneRef, RowsRef, VisibleMut};
 
-/// Makes the rows of a buffer the colors of three planes of one size, in the order `O`.
+/// Converts three 8-bit planes of the same size (4:4:4) to colors, and writes them to the rows in `buffer` in the byte order
+/// `O`. Each channel is computed with `matrix` as by [`RgbMatrix::color`].
 ///
-/// `width` and `stride` count bytes. A row of the buffer has [`BYTES`](ColorOrder::BYTES) bytes for each pixel.
+/// `width` and `stride` count bytes. Each row has [`BYTES`](ColorOrder::BYTES) bytes for each pixel of the planes. All bytes of
+/// the buffer outside these rows stay unchanged.
 pub fn yuv444_to_rgb<O: ColorOrder>(
     y: &PlaneRef<'_, u8>,
     u: &PlaneRef<'_, u8>,
@@ -37,9 +39,11 @@ pub fn yuv444_to_rgb<O: ColorOrder>(
     rows::yuv444_to_rgb::<O>(&y, &u, &v, buffer, width, height, stride, matrix);
 }
 
-/// Makes what a plane shows the samples of a picture of colors, in the order `O`, for the channel `C`. Its border stays.
+/// Converts a packed picture in the byte order `O` to the samples of one channel `C` (luma, Cb or Cr), and writes them to
+/// `plane`. The padding of `plane` stays unchanged.
 ///
-/// A row of the picture has [`BYTES`](ColorOrder::BYTES) bytes for each visible pixel of the plane.
+/// Each row of `source` has [`BYTES`](ColorOrder::BYTES) bytes for each pixel of the plane, and `source` has as many rows as
+/// the plane.
 pub fn rgb_to_channel<O: ColorOrder, C: Channel>(
     source: &RowsRef<'_, u8>,
     plane: &mut Plane<u8>,
@@ -60,9 +64,11 @@ pub fn rgb_to_channel<O: ColorOrder, C: Channel>(
     rows::rgb_to_channel::<O, C>(source, entries, width, height, stride, matrix);
 }
 
-/// Makes what three planes show the luma and the chroma of a picture of colors, in the order `O`. Their borders stay.
+/// Converts a packed picture in the byte order `O` to luma and chroma without subsampling (4:4:4), and writes them to the
+/// planes `y`, `u` and `v`. The padding of the planes stays unchanged.
 ///
-/// The planes have one size, and a row of the picture has [`BYTES`](ColorOrder::BYTES) bytes for each of their pixels.
+/// The planes have the same size. Each row of `source` has [`BYTES`](ColorOrder::BYTES) bytes for each pixel of a plane, and
+/// `source` has as many rows as a plane.
 pub fn rgb_to_yuv444<O: ColorOrder>(
     source: &RowsRef<'_, u8>,
     y: &mut Plane<u8>,

@@ -1,4 +1,4 @@
-//! Colors of samples of any bit depth, which are rounded once.
+//! Colors of samples of any bit depth, computed with exact coefficients and rounded once.
 ghost use Rattle.std.specs.Prelude.{◌≡◌, ◌+◌, ◌*◌, ◌^◌, ◌<◌, ◌≤◌};
 ghost use Rattle.v_frame_rgb.specs.Colors.{sample_of};
 ghost use Rattle.v_frame_rgb.specs.Exact.{exact_color, gray_at, levels_at, steps_at};
@@ -8,7 +8,8 @@ use crate::color::Color;
 use crate::standard::{ColorRange, Standard};
 use crate::whole_steps::{WholeSteps, black, unit};
 
-/// Coefficients from Y'CbCr of a bit depth to R'G'B', which are those of a standard exactly: whole numbers over one denominator.
+/// The exact coefficients of a standard for the conversion from Y'CbCr to R'G'B' at a bit depth: integers with a common
+/// denominator.
 #[derive(Clone, Copy)]
 pub struct ExactMatrix {
     standard: Standard,
@@ -25,7 +26,7 @@ pub struct ExactMatrix {
 }
 
 impl ExactMatrix {
-    /// Returns the coefficients of a standard for samples of a range and of a bit depth from 8 to 16.
+    /// Returns the exact coefficients of `standard` for samples of this range and this bit depth. `depth` is from 8 to 16.
     pub fn new(standard: Standard, range: ColorRange, depth: u8) -> Self
         requires low { 8 ≤ depth }
         requires high { depth ≤ 16 }
@@ -47,8 +48,8 @@ impl ExactMatrix {
         }
     }
 
-    /// Returns the color of a sample of luma, one of Cb and one of Cr. Each channel is the nearest to what the standard's own
-    /// fractions make it, and the greater one at a half.
+    /// Returns the 8-bit color of a luma sample `y`, a Cb sample `u` and a Cr sample `v`. Each channel is computed exactly from
+    /// the fractions of the standard, rounded once to the nearest integer, halves up, and clipped to `0..=255`.
     #[inline(always)]
     pub fn color(&self, y: u16, u: u16, v: u16) -> Color
         ensures { result ≡ exact_color self.now.standard self.now.range self.now.depth y u v }
@@ -67,7 +68,7 @@ impl ExactMatrix {
         Color { red, green, blue }
     }
 
-    /// Returns a channel: luma above black, with what chroma adds and without what it takes away.
+    /// Returns a channel: the luma above black, plus `more` and minus `less` for the chroma.
     #[inline(always)]
     fn channel(&self, y: u16, more: u64, less: u64) -> u8
         requires more { more < 2 ^ 60 }
@@ -81,7 +82,7 @@ impl ExactMatrix {
     }
 }
 
-/// Returns what a sample counts for.
+/// Returns the product of a coefficient and a sample.
 #[inline(always)]
 #[tactic(auto, using(crate::proofs::ExactLemmas::weighed_below))]
 fn weighed(coefficient: u64, sample: u16) -> u64
@@ -92,7 +93,7 @@ fn weighed(coefficient: u64, sample: u16) -> u64
     coefficient * u64::from(sample)
 }
 
-/// Returns the whole number nearest to a difference over a scale, as a sample.
+/// Returns `(bright - dark) / scale`, rounded to the nearest integer, halves up, and clipped to `0..=255`.
 #[inline(always)]
 fn nearest_sample(scale: u64, bright: u64, dark: u64) -> u8
     requires some { 0 < scale }

@@ -1,4 +1,5 @@
-//! Laws of colors and samples: what callers may rely on beyond a single call. Each is the contract of a function.
+//! Laws of colors and samples, which state more than the contract of a single conversion. Each law is the contract of a
+//! function that does nothing.
 ghost use Rattle.std.specs.Prelude.{◌≡◌, ◌+◌, ◌/◌, ◌<◌, ℕ, pos, ◌-ℤ◌};
 ghost use Rattle.std.specs.Int.{int_div_euclid, int_max, int_min};
 ghost use Rattle.v_frame_rgb.specs.Colors.{sample_of};
@@ -8,13 +9,13 @@ ghost use Rattle.v_frame_rgb.specs.declared.color.Color.{Color};
 ghost use Rattle.v_frame_rgb.specs.declared.standard.Standard.{Standard};
 ghost use Rattle.v_frame_rgb.specs.declared.standard.ColorRange.{ColorRange};
 
-/// A sample is the difference over the scale, with a half added, rounded down over the integers, and then clamped to a byte.
+/// A sample is the difference divided by the scale, rounded to the nearest integer, halves up, and clipped to a byte.
 pub fn samples_are_clamped_quotients()
     ensures { (scale bright dark : ℕ) → 0 < scale → pos (sample_of scale bright dark)
         ≡ int_max (pos 0) (int_min (int_div_euclid (pos (bright + scale / 2) -ℤ pos dark) (pos scale)) (pos 255)) }
 {}
 
-/// Each channel, before it is rounded, is within a hundredth of what the standard's own fractions make it.
+/// Before rounding, each channel of a color differs by at most 0.01 from the value that the fractions of the standard define.
 pub fn colors_are_near_the_standards()
     ensures red { (standard : Standard) (range : ColorRange) (y u v : ℕ) → y < 256 → u < 256 → v < 256
         → RedIsNear standard range y u v }
@@ -24,7 +25,7 @@ pub fn colors_are_near_the_standards()
         → BlueIsNear standard range y u v }
 {}
 
-/// Each sample, before it is rounded, is within a hundredth of what the standard's own fractions make it.
+/// Before rounding, each sample differs by at most 0.01 from the value that the fractions of the standard define.
 pub fn samples_are_near_the_standards()
     ensures luma { (standard : Standard) (range : ColorRange) (color : Color) → HasBytes color
         → LumaIsNear standard range color }
@@ -34,8 +35,8 @@ pub fn samples_are_near_the_standards()
         → ChromaVIsNear standard range color }
 {}
 
-/// A color that becomes samples of 8 bits, which become a color again, comes back: red and green are off by at most 1, and blue
-/// by at most 1 in full range, and 2 in limited range.
+/// A color is converted to 8-bit samples and back. Then red and green differ from the original by at most 1. Blue differs by at
+/// most 1 in full range and by at most 2 in limited range.
 pub fn colors_come_back()
     ensures { (standard : Standard) (range : ColorRange) (color : Color) → HasBytes color
         → ComesBack range color (and_back standard range color) }

@@ -1,4 +1,4 @@
-//! Conversions between Y'CbCr and R'G'B'.
+//! Conversions between Y'CbCr samples and R'G'B' colors by ITU-R BT.601, BT.709 and BT.2020.
 #![tactic(auto)]
 
 mod color;

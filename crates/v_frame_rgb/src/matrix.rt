@@ -1,17 +1,17 @@
-//! The coefficients of conversions: those of the standards, or a caller's.
+//! The coefficients of the conversions, from a standard or chosen by the caller.
 ghost use Rattle.std.specs.Prelude.{◌≡◌, ◌<◌, ◌^◌};
 ghost use Rattle.v_frame_rgb.specs.Colors.{sample_of, color_of, rgb_matrix_of, yuv_matrix_of, color_scale};
 
 use crate::color::Color;
 use crate::standard::{ColorRange, Standard};
 
-/// Coefficients from Y'CbCr to R'G'B', in parts of 16384.
+/// Coefficients for the conversion from Y'CbCr to R'G'B', in units of 1/16384.
 ///
-/// One step of luma makes `luma` of each channel. One step of Cb makes `blue_u` of blue and takes `green_u` from green, and one
-/// step of Cr makes `red_v` of red and takes `green_v` from green.
+/// With these coefficients, and before rounding, `red = luma * (y - black) + red_v * (v - 128)`, `green = luma * (y - black) -
+/// green_u * (u - 128) - green_v * (v - 128)` and `blue = luma * (y - black) + blue_u * (u - 128)`.
 #[derive(Debug, Clone, Copy, PartialEq, Eq)]
 pub struct RgbMatrix {
-    /// The sample of luma that stands for black.
+    /// The luma sample of black: 16 in limited range, 0 in full range.
     pub black: u8,
     pub luma: u16,
     pub red_v: u16,
@@ -20,13 +20,13 @@ pub struct RgbMatrix {
     pub blue_u: u16,
 }
 
-/// Coefficients from R'G'B' to Y'CbCr, in parts of 65536.
+/// Coefficients for the conversion from R'G'B' to Y'CbCr, in units of 1/65536.
 ///
-/// One step of a color makes `y_red`, `y_green` or `y_blue` of luma. To Cb blue adds `u_blue`, and red and green take away
-/// `u_red` and `u_green`. To Cr red adds `v_red`, and green and blue take away `v_green` and `v_blue`.
+/// With these coefficients, and before rounding, `y = black + y_red * red + y_green * green + y_blue * blue`,
+/// `u = 128 - u_red * red - u_green * green + u_blue * blue` and `v = 128 + v_red * red - v_green * green - v_blue * blue`.
 #[derive(Debug, Clone, Copy, PartialEq, Eq)]
 pub struct YuvMatrix {
-    /// The sample of luma that stands for black.
+    /// The luma sample of black: 16 in limited range, 0 in full range.
     pub black: u8,
     pub y_red: u16,
     pub y_green: u16,
@@ -40,7 +40,8 @@ pub struct YuvMatrix {
 }
 
 impl RgbMatrix {
-    /// Returns the coefficients of a standard, each the whole number nearest to the standard's.
+    /// Returns the coefficients of `standard` for 8-bit samples of this range. Each is the integer nearest to the exact
+    /// coefficient in units of 1/16384.
     pub fn new(standard: Standard, range: ColorRange) -> Self
         ensures { result ≡ rgb_matrix_of standard range }
     {
@@ -66,7 +67,8 @@ impl RgbMatrix {
         }
     }
 
-    /// Returns the color of a sample of luma, one of Cb and one of Cr.
+    /// Returns the color of a luma sample `y`, a Cb sample `u` and a Cr sample `v`. Each channel is rounded to the nearest
+    /// integer, halves up, and clipped to `0..=255`.
     #[inline(always)]
     pub fn color(self, y: u8, u: u8, v: u8) -> Color
         ensures { result ≡ color_of self y u v }
@@ -88,7 +90,8 @@ impl RgbMatrix {
 }
 
 impl YuvMatrix {
-    /// Returns the coefficients of a standard, each the whole number nearest to the standard's.
+    /// Returns the coefficients of `standard` for 8-bit samples of this range. Each is the integer nearest to the exact
+    /// coefficient in units of 1/65536.
     pub fn new(standard: Standard, range: ColorRange) -> Self
         ensures { result ≡ yuv_matrix_of standard range }
     {
@@ -155,7 +158,7 @@ impl YuvMatrix {
     }
 }
 
-/// Returns the whole number nearest to a difference over 16384, as a sample.
+/// Returns `(bright - dark) / 16384`, rounded to the nearest integer, halves up, and clipped to `0..=255`.
 #[inline(always)]
 fn color_sample(bright: u32, dark: u32) -> u8
     requires { bright < 2 ^ 31 }

@@ -1,4 +1,4 @@
-//! The three samples that a color becomes.
+//! The luma and chroma samples of a color.
 ghost use Rattle.std.specs.Prelude.{◌≡◌, ℕ, ◌*◌, ◌<◌, ◌^◌};
 ghost use Rattle.v_frame_rgb.specs.Colors.{sample_of, y_of, u_of, v_of, sample_scale};
 
@@ -6,7 +6,7 @@ use crate::color::Color;
 use crate::matrix::YuvMatrix;
 
 mod sealed {
-    /// No type outside this crate can be a channel.
+    /// Types outside this crate cannot implement [`Channel`](super::Channel).
     pub trait Sealed {}
 
     impl Sealed for super::Luma {}
@@ -16,20 +16,20 @@ mod sealed {
     impl Sealed for super::ChromaV {}
 }
 
-/// A channel of Y'CbCr.
+/// A channel of Y'CbCr: [`Luma`], [`ChromaU`] or [`ChromaV`].
 pub trait Channel: sealed::Sealed {
     ghost use Rattle.v_frame_rgb.specs.declared.color.Color.{Color};
     ghost use Rattle.v_frame_rgb.specs.declared.matrix.YuvMatrix.{YuvMatrix};
 
-    // The sample of a color.
+    // The sample of a color in this channel.
     ghost sample: { YuvMatrix → Color → ℕ };
 
-    /// Returns the sample of a color.
+    /// Returns the sample of `color` in this channel, rounded to the nearest integer, halves up, and clipped to `0..=255`.
     fn sample(matrix: YuvMatrix, color: Color) -> u8
         ensures { result ≡ sample matrix color };
 }
 
-/// Luma.
+/// Luma (Y').
 pub struct Luma;
 
 /// Cb, the blue difference.
@@ -74,7 +74,7 @@ impl Channel for ChromaV {
     }
 }
 
-/// Returns what a channel counts for.
+/// Returns the product of a coefficient and a channel.
 #[inline(always)]
 fn weighed(coefficient: u16, channel: u8) -> u32
     ensures value { result ≡ coefficient * channel }
@@ -83,7 +83,7 @@ fn weighed(coefficient: u16, channel: u8) -> u32
     u32::from(coefficient) * u32::from(channel)
 }
 
-/// Returns the whole number nearest to a difference over 65536, as a sample.
+/// Returns `(bright - dark) / 65536`, rounded to the nearest integer, halves up, and clipped to `0..=255`.
 #[inline(always)]
 fn nearest_sample(bright: u32, dark: u32) -> u8
     requires { bright < 2 ^ 31 }

@@ -1,21 +1,21 @@
-//! The standards of Y'CbCr, and the ranges of their samples.
+//! The standards that define Y'CbCr, and the ranges of the samples.
 
-/// A standard that says how Y'CbCr is made of R'G'B', by the weights of red and blue in luma.
+/// A standard that defines Y'CbCr by the weights of red (Kr) and blue (Kb) in luma. The weight of green is `1 - Kr - Kb`.
 #[derive(Debug, Clone, Copy, PartialEq, Eq)]
 pub enum Standard {
-    /// ITU-R BT.601-7, of standard definition: 0.299 and 0.114.
+    /// ITU-R BT.601-7, for standard definition: Kr = 0.299 and Kb = 0.114.
     Bt601,
-    /// ITU-R BT.709-6, of high definition: 0.2126 and 0.0722.
+    /// ITU-R BT.709-6, for high definition: Kr = 0.2126 and Kb = 0.0722.
     Bt709,
-    /// ITU-R BT.2020-2 with non-constant luminance, of ultra-high definition: 0.2627 and 0.0593.
+    /// ITU-R BT.2020-2 with non-constant luminance, for ultra-high definition: Kr = 0.2627 and Kb = 0.0593.
     Bt2020,
 }
 
-/// Which samples of 8 bits stand for black, white and the strongest chroma.
+/// The range of the samples: limited (video) or full.
 #[derive(Debug, Clone, Copy, PartialEq, Eq)]
 pub enum ColorRange {
-    /// Luma from 16 to 235, and chroma from 16 to 240, as in broadcasts and most video files.
+    /// Limited range: at 8 bits, luma from 16 to 235 and chroma from 16 to 240. Broadcasts and most video files use it.
     Limited,
-    /// All from 0 to 255, as in JPEG files.
+    /// Full range: at 8 bits, all samples from 0 to 255. JPEG files use it.
     Full,
 }

@@ -1,11 +1,12 @@
-//! The steps of the standards as whole numbers.
+//! The coefficients of the standards as integers with a common denominator.
 ghost use Rattle.std.specs.Prelude.{◌≡◌, ◌-◌, ◌^◌, ◌≤◌};
 ghost use Rattle.v_frame_rgb.specs.Exact.{levels_at};
 ghost use Rattle.v_frame_rgb.specs.WholeSteps.{unit_at, whole_steps_of};
 
 use crate::standard::{ColorRange, Standard};
 
-/// How much one step of luma, of Cb or of Cr makes of a color, in parts of a scale times what 1 of the levels is at a bit depth.
+/// The change of a color for one step of luma, Cb or Cr. All steps are integers with the common denominator `scale`, multiplied
+/// by the [`unit`] of the bit depth.
 #[derive(Clone, Copy)]
 pub(crate) struct WholeSteps {
     pub scale: u64,
@@ -92,7 +93,8 @@ impl WholeSteps {
     }
 }
 
-/// Returns what 1 of the levels is at a bit depth: of limited range 1 of 8 bits, and of full range all values.
+/// Returns the unit in which the levels of a range are counted at a bit depth: `2^(depth - 8)` in limited range, and the
+/// largest value in full range.
 pub(crate) fn unit(range: ColorRange, depth: u8) -> u64
     requires { (8 ≤ depth) × (depth ≤ 16) }
     ensures { result ≡ unit_at range depth }
@@ -103,7 +105,7 @@ pub(crate) fn unit(range: ColorRange, depth: u8) -> u64
     }
 }
 
-/// Returns the sample of black at a bit depth.
+/// Returns the luma sample of black at a bit depth.
 pub(crate) fn black(range: ColorRange, depth: u8) -> u16
     requires { (8 ≤ depth) × (depth ≤ 16) }
     ensures { result ≡ (levels_at range depth).black }
@@ -114,7 +116,7 @@ pub(crate) fn black(range: ColorRange, depth: u8) -> u16
     }
 }
 
-/// Returns what 1 of 8 bits is at a bit depth.
+/// Returns `2^(depth - 8)`, the factor between 8-bit levels and levels at the bit depth.
 fn step(depth: u8) -> u16
     requires { (8 ≤ depth) × (depth ≤ 16) }
     ensures value { result ≡ 2 ^ (depth - 8) }

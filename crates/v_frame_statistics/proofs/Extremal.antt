@@ -1,4 +1,4 @@
--- The least and the greatest pixel of two lists that are joined, and so with one more pixel, or one more row.
+-- The minimum and the maximum of two joined lists, and therefore with one more pixel or one more row.
 use Rattle.std.proofs.Common.{ℕ, ◌≡◌, ◌+◌, ◌<◌, ◌≤◌, List, [], ◌∷◌, ◌++◌, length, take, get_or, Some, slice_get}
 use Rattle.std.proofs.Common.{arith, refl, sym, ◌∙◌, ap, append_assoc, ◌⊎◌, inl, inr}
 use Rattle.std.proofs.lemmas.List.{take_all, take_more, append-nil}
@@ -11,7 +11,7 @@ use Rattle.v_frame_raster.proofs.tables.CutRows.{row_major-append}
 use Rattle.v_frame_statistics.specs.Extremes.{IsFirst}
 
 module _ {T : Type 0} where
-  -- the first rows of a table, joined, and one more
+  -- The first rows of a table joined to a list, and one more row.
   pub first_rows : (table : Table T) (y : ℕ) (row : List T) → slice_get table y ≡ Some row
       → row_major (take (y + 1) table) ≡ row_major (take y table) ++ row
   first_rows table y row is =
@@ -22,7 +22,7 @@ module _ {T : Type 0} where
         append-nil row,
       ) refl
 
-  -- each pixel comes before itself, and before what comes after one that it comes before
+  -- The order is reflexive and transitive.
   pub record IsOrder (comes : T → T → Type 0) : Type 0 where
     pub itself : (a : T) → comes a a
     pub passes : (a b c : T) → comes a b → comes b c → comes a c
@@ -33,13 +33,13 @@ module _ {T : Type 0} where
   pub by_greatest : (value : T → ℕ) → IsOrder (λ p q. value q ≤ value p)
   by_greatest value = record { itself = λ a. omega arith; passes = λ a b c h k. omega (arith, h, k) }
 
--- an item of a list comes before those in front of an index
+-- An item of the list comes before all items below an index.
 pub record FirstSoFar {T : Type 0} (comes : T → T → Type 0) (xs : List T) (x : ℕ) (first : T) : Type 0 where
   pub bound : All (λ p. comes first p) (take x xs)
   pub occurs : Contains xs first
 
 module _ {T : Type 0} {comes : T → T → Type 0} (order : IsOrder comes) where
-  -- the first of two lists that are joined is that of the one, or that of the other
+  -- The first item of two joined lists is the first item of one of them.
   abbrev pub FirstOf : T → T → T → Type 0
   FirstOf a b m = (m ≡ a) × comes a b ⊎ (m ≡ b) × comes b a
 
@@ -56,7 +56,7 @@ module _ {T : Type 0} {comes : T → T → Type 0} (order : IsOrder comes) where
         occurs = Contains-append_right xs ys b second.occurs;
       })
 
-  -- one more row, and one more item
+  -- The loop step: one more row, and one more item.
   pub first_of_more_rows : (table : Table T) (y : ℕ) (row : List T) → slice_get table y ≡ Some row → (a b m : T)
       → IsFirst comes (row_major (take y table)) a → IsFirst comes row b → FirstOf a b m
       → IsFirst comes (row_major (take (y + 1) table)) m
@@ -78,6 +78,6 @@ module _ {T : Type 0} {comes : T → T → Type 0} (order : IsOrder comes) where
         occurs = (x, h, sym read);
       })
 
-  -- the first so far, at the end
+  -- After the last step, the first item so far is the first item of the list.
   pub first_of_all : (xs : List T) (x : ℕ) (a : T) → length xs ≤ x → FirstSoFar comes xs x a → IsFirst comes xs a
   first_of_all xs x a end so_far = record { bound = rw (take_all x xs end) at so_far.bound; occurs = so_far.occurs }

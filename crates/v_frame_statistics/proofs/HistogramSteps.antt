@@ -1,4 +1,4 @@
--- Counts of values, one more item on, and one more row.
+-- The loop steps of a histogram: one more item, and one more row.
 use Rattle.std.proofs.Common.{ℕ, ◌≡◌, ◌+◌, ◌<◌, List, length, take, get_or, set, cond, nat_eq, arith, ap}
 use Rattle.std.proofs.Common.{get_or-set_same, get_or-set_other, length-set}
 use Rattle.std.proofs.lemmas.List.Sums.{sum_by_more, count_by-le-length}
@@ -14,13 +14,13 @@ counted : (old new xs ys : List ℕ) (p v : ℕ) → get_or new v 0 ≡ get_or o
 counted old new xs ys p v is more small =
     grind (arith, get_or-set_same new p (get_or new p 0 + 1) 0, get_or-set_other)
 
--- of each value below a size it is known how often it occurs above a row: with the rows that are left this is all, and
--- it is no more than there are pixels
+-- For each value below `size`: its count above row `y` plus its count in the remaining rows is the whole count, which
+-- is at most the number of pixels.
 pub record CountedAbove (size : ℕ) (rows : Table ℕ) (y : ℕ) (count : ℕ → ℕ) : Type 0 where
   pub so_far : (v : ℕ) → v < size → count v + occurrences v (row_major (drop y rows)) ≡ occurrences v (row_major rows)
   pub bound : (v : ℕ) → v < size → count v ≤ y * width_of rows
 
--- a value that has an entry occurs once more
+-- A value that has an entry is counted once more.
 pub one_more_counted : (size : ℕ) (old new after xs : List ℕ) (x : ℕ) → CountsMore size (take x xs) old new
     → x < length xs → after ≡ set new (get_or xs x 0) (get_or new (get_or xs x 0) 0 + 1) → length after ≡ size
     → get_or xs x 0 < size → CountsMore size (take (x + 1) xs) old after
@@ -31,7 +31,7 @@ one_more_counted size old new after xs x so_far h is long small =
     rw is (λ v below. counted old new (take x xs) (take (x + 1) xs) p v (so_far v below)
     (sum_by_more (λ q. cond (nat_eq q v) 1 0) xs x 0 h) fits)
 
--- no entry is too large for one more row
+-- No entry overflows with one more row.
 pub row_fits : (size : ℕ) (rows : Table ℕ) (y : ℕ) (before : ℕ → ℕ) → CountedAbove size rows y before
     → (height : ℕ) → y < height → height * width_of rows < 2 ^ 64
     → (v : ℕ) → v < size → before v + width_of rows < 2 ^ 64
@@ -43,7 +43,7 @@ row_fits size rows y before counted_above height high countable =
 
 module _ (size : ℕ) (rows : Table ℕ) (y : ℕ) (before after : ℕ → ℕ)
     (counted_above : CountedAbove size rows y before) where
-  -- one more row
+  -- The loop step: one more row.
   pub row_counted : (row : List ℕ) → slice_get rows y ≡ Some row → length row ≡ width_of rows
       → ((v : ℕ) → v < size → after v ≡ before v + occurrences v row) → CountedAbove size rows (y + 1) after
   row_counted row is wide more = record {
@@ -58,7 +58,7 @@ module _ (size : ℕ) (rows : Table ℕ) (y : ℕ) (before after : ℕ → ℕ)
         omega (arith, next, more v below, wide, counted_above.bound v below, count_by-le-length (λ q. nat_eq q v) row);
   }
 
-  -- four more rows
+  -- Four more rows.
   pub four_rows_counted : (a b c d : List ℕ) → slice_get rows y ≡ Some a → slice_get rows (y + 1) ≡ Some b
       → slice_get rows (y + 2) ≡ Some c → slice_get rows (y + 3) ≡ Some d → length a ≡ width_of rows
       → length b ≡ width_of rows → length c ≡ width_of rows → length d ≡ width_of rows

@@ -1,4 +1,4 @@
--- Sums over pairs, one more pair or one more block of two lists on, and one more row of two tables.
+-- Sums over pairs: the loop steps for one more pair, one more block of two lists, and one more row of two tables.
 use Rattle.std.proofs.Common.{ℕ, ◌≡◌, ◌+◌, ◌-◌, ◌*◌, ◌/◌, ◌%◌, ◌<◌, ◌≤◌, List, length, take, drop, get_or, Some}
 use Rattle.std.proofs.Common.{slice_get, arith}
 use Rattle.std.specs.Prelude.{sum_by, zip}
@@ -11,7 +11,7 @@ use Rattle.v_frame_statistics.proofs.SumSteps.{HalvesSummedBefore, all_halves_su
 
 module _ {X : Type 0} (f : X × X → ℕ) (most : ℕ) where
   module _ (xs ys : List X) (same : length ys ≡ length xs) where
-    -- one more pair
+    -- One more pair.
     pub pair_summed : (i sum : ℕ) (p q : X) (here : ℕ) → SummedBefore f most (zip xs ys) i sum → i < length xs
         → p ≡ get_or xs i p → q ≡ get_or ys i q → here ≡ f (p, q) → here ≤ most
         → SummedBefore f most (zip xs ys) (i + 1) (sum + here)
@@ -25,7 +25,7 @@ module _ {X : Type 0} (f : X × X → ℕ) (most : ℕ) where
     all_pairs_summed n sum before h =
         all_summed f most (zip xs ys) n sum before (omega (arith, zip-length xs ys same))
 
-    -- the same of low and high halves
+    -- One more pair, with the low and the high halves summed separately.
     pub pair_halves_summed : (i low high : ℕ) (p q : X) (here low_here high_here : ℕ)
         → HalvesSummedBefore f (zip xs ys) i low high → i < length xs → p ≡ get_or xs i p → q ≡ get_or ys i q
         → here ≡ f (p, q) → here < 4294967296 → low_here ≡ here % 65536 → high_here ≡ here / 65536
@@ -44,7 +44,7 @@ module _ {X : Type 0} (f : X × X → ℕ) (most : ℕ) where
     all_pair_halves_summed n low high before h =
         all_halves_summed f (zip xs ys) n low high before (omega (arith, zip-length xs ys same))
 
-    -- one more block
+    -- One more block.
     pub pair_block_summed : (n k sum block : ℕ) → SummedBefore f most (zip xs ys) (n * k) sum
         → block ≡ sum_by f (zip (take n (drop (n * k) xs)) (take n (drop (n * k) ys))) → block ≤ most * n
         → SummedBefore f most (zip xs ys) (n * (k + 1)) (sum + block)
@@ -58,13 +58,13 @@ module _ {X : Type 0} (f : X × X → ℕ) (most : ℕ) where
         rest_summed f most (zip xs ys) n sum rest before
         (rw (zip-length xs ys same) (rw (same, zip-piece n (length xs - n) xs ys) at is))
 
-  -- the pairs above row y are summed: with those that are left this is all
+  -- The sum of the pairs above row `y` plus the sum of the remaining pairs is the whole sum.
   pub record PairsSummedAbove (table other : Table X) (y sum : ℕ) : Type 0 where
     pub so_far : sum + sum_by f (zip (row_major (drop y table)) (row_major (drop y other)))
         ≡ sum_by f (zip (row_major table) (row_major other))
     pub bound : sum ≤ most * (y * width_of table)
 
-  -- one more row
+  -- The loop step: one more row.
   pub row_pairs_summed : (table other : Table X) (y sum : ℕ) (row row1 : List X) (here : ℕ)
       → PairsSummedAbove table other y sum → slice_get table y ≡ Some row → slice_get other y ≡ Some row1
       → length row ≡ length row1 → length row ≡ width_of table → here ≡ sum_by f (zip row row1)

@@ -1,16 +1,16 @@
--- The least and the greatest pixel of a list.
+-- The minimum and the maximum of a list of pixels.
 use Rattle.std.specs.Prelude.{ℕ, ◌≤◌, List, All, Contains}
 
 module _ {T : Type 0} where
-  -- of the pixels in an order one comes before each, and it occurs
+  -- `first` is a pixel of the list, and it comes before each pixel of the list in the given order.
   pub record IsFirst (comes : T → T → Type 0) (xs : List T) (first : T) : Type 0 where
     pub bound : All (λ p. comes first p) xs
     pub occurs : Contains xs first
 
-  -- no pixel has a lesser value, and the pixel occurs
+  -- `least` is a pixel of the list, and no pixel has a smaller value.
   abbrev pub IsLeast : (T → ℕ) → List T → T → Type 0
   IsLeast value xs least = IsFirst (λ p q. value p ≤ value q) xs least
 
-  -- no pixel has a greater value, and the pixel occurs
+  -- `greatest` is a pixel of the list, and no pixel has a larger value.
   abbrev pub IsGreatest : (T → ℕ) → List T → T → Type 0
   IsGreatest value xs greatest = IsFirst (λ p q. value q ≤ value p) xs greatest

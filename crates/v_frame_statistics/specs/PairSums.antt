@@ -1,9 +1,9 @@
--- The sums over two lists of pixels of one length.
+-- The sums over two lists of pixels of the same length.
 use Rattle.std.specs.Prelude.{ℕ, ◌≡◌, ◌≤◌, List}
 use Rattle.v_frame_statistics.specs.declared.rows.pairs.PairSums.{PairSums}
 use Rattle.v_frame_statistics.specs.Sums.{sum_of_values, sum_of_squares, sum_of_products}
 
--- these are the sums over two lists
+-- `sums` has the sums over the lists `xs` and `ys`.
 pub record ArePairSums {T : Type 0} (value : T → ℕ) (xs ys : List T) (sums : PairSums)
     : Type 0 where
   pub first : sums.first ≡ sum_of_values value xs
@@ -12,7 +12,7 @@ pub record ArePairSums {T : Type 0} (value : T → ℕ) (xs ys : List T) (sums :
   pub second_squares : sums.second_squares ≡ sum_of_squares value ys
   pub products : sums.products ≡ sum_of_products value xs ys
 
--- none of them is above a number
+-- None of the sums is above `most`.
 pub record PairSumsAtMost (most : ℕ) (sums : PairSums) : Type 0 where
   pub first : sums.first ≤ most
   pub second : sums.second ≤ most

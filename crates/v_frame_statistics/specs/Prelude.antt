@@ -1,4 +1,4 @@
--- The words that callers' clauses cite, re-exported from one place.
+-- The definitions that contracts of other crates use, re-exported from one module.
 pub use Rattle.v_frame_statistics.specs.Count.{passing_pairs}
 pub use Rattle.v_frame_statistics.specs.Extremes.{IsGreatest, IsLeast}
 pub use Rattle.v_frame_statistics.specs.Histogram.{Counts, occurrences}

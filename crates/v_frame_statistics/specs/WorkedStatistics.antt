@@ -1,4 +1,5 @@
--- Statistics of small tables worked out by hand. Each line computes: it is proved by `refl`.
+-- Statistics of small tables with results computed by hand. Each line is proved by computation
+-- (`refl`).
 use Rattle.std.specs.Prelude.{ℕ, ◌≡◌, List, [], ◌∷◌, nat_eq, nat_lt, not, count_by, refl}
 use Rattle.v_frame.specs.Prelude.{one_byte, two_bytes, row_major}
 use Rattle.v_frame_statistics.specs.Count.{passing_pairs}
@@ -14,13 +15,13 @@ two_others = (1 ∷ 7 ∷ 8 ∷ []) ∷ (0 ∷ 7 ∷ 255 ∷ []) ∷ []
 above_six : count_by (λ p. nat_lt 6 p) (row_major two_rows) ≡ 4
 above_six = refl
 
--- a pixel of the one picture is not compared with its neighbours in the other
+-- Pixels are compared at the same position only.
 that_differ : passing_pairs (λ p q. not (nat_eq p q)) (row_major two_rows) (row_major two_others)
     ≡ 3
 unfolding passing_pairs
 that_differ = refl
 
--- nor are the two exchanged
+-- The order of the two pictures matters.
 that_grow : passing_pairs nat_lt (row_major two_rows) (row_major two_others) ≡ 2
 unfolding passing_pairs
 that_grow = refl

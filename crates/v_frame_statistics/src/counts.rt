@@ -1,4 +1,4 @@
-//! Counts of pixels, and of pairs of pixels, that pass a test.
+//! Counts of the pixels, or the pairs of pixels, that pass a test.
 ghost use Rattle.std.specs.Prelude.{◌≡◌, ◌*◌, ◌≤◌, Bool, count_by};
 ghost use Rattle.v_frame.specs.Prelude.{row_major, table_of};
 ghost use Rattle.v_frame_statistics.specs.Count.{passing_pairs};
@@ -7,9 +7,9 @@ use crate::rows;
 use v_frame::pixel::Pixel;
 use v_frame::plane::PlaneRef;
 
-/// Returns how many visible pixels pass `test`, which has to accept any pixel.
+/// Returns the number of visible pixels for which `test` returns true. `test` must accept every pixel of the type.
 ///
-/// With a comparison or the like the compiler makes packed code of it.
+/// The compiler vectorizes a simple `test`, for example a comparison.
 pub fn count_pixels<T: Pixel, F: Fn(T) -> bool>(plane: &PlaneRef<'_, T>, test: F) -> usize
     requires { F.IsAlwaysCallable test }
     ensures value { (t : T → Bool) → ((p : T) (b : Bool) → F.post test p b → b ≡ t p)
@@ -19,8 +19,9 @@ pub fn count_pixels<T: Pixel, F: Fn(T) -> bool>(plane: &PlaneRef<'_, T>, test: F
     rows::count_pixels(&plane.as_rows_ref(), test)
 }
 
-/// Returns at how many places the visible pixels of two planes of one size pass `test`, which has to accept any two pixels: how
-/// many are not the same, say, or differ by more than a limit.
+/// Returns the number of positions at which `test` returns true for the visible pixels of `a` and `b`. Both planes have the
+/// same size, and `test` must accept every pair of pixels of the type. For example, it counts the pixels that are not equal, or
+/// that differ by more than a threshold.
 pub fn count_pairs<T: Pixel, F: Fn(T, T) -> bool>(
     a: &PlaneRef<'_, T>,
     b: &PlaneRef<'_, T>,

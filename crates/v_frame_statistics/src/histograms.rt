@@ -1,4 +1,4 @@
-//! How often each value occurs in a plane.
+//! Histograms of planes.
 ghost use Rattle.std.specs.Prelude.{◌≡◌, ◌^◌, ◌≤◌, IfOk, vec_len};
 ghost use Rattle.v_frame.specs.Prelude.{row_major, table_of};
 ghost use Rattle.v_frame_statistics.specs.Histogram.{Counts};
@@ -7,19 +7,19 @@ use crate::rows;
 use std::alloc::{AllocError, Global};
 use v_frame::plane::PlaneRef;
 
-/// Returns how often each value occurs among the visible pixels of a plane of 8 bits: entry `v` counts those of the value `v`.
+/// Returns the histogram of the visible pixels of an 8-bit plane: entry `v` is the number of pixels with value `v`.
 pub fn histogram(plane: &PlaneRef<'_, u8>) -> [u64; 256]
     ensures { Counts 256 (row_major (table_of plane.now)) result }
 {
     rows::histogram(&plane.as_rows_ref())
 }
 
-/// Returns how often each value below `2 ^ bit_depth` occurs among the visible pixels: entry `v` counts those of the value
-/// `v`. A pixel of a greater value is in no entry.
+/// Returns the histogram of the visible pixels for a bit depth. It has `2^bit_depth` entries, and entry `v` is the number of
+/// pixels with value `v`. A pixel with a value of `2^bit_depth` or more is not counted.
 ///
 /// # Errors
 ///
-/// [`AllocError`] where a request for memory was refused.
+/// Returns [`AllocError`] if the memory for the histogram cannot be allocated.
 pub fn histogram_of_depth(
     alloc: Global,
     plane: &PlaneRef<'_, u16>,

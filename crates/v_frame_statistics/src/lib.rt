@@ -1,8 +1,8 @@
-//! Numbers that pictures give: counts of pixels that pass a test, histograms, least and greatest values, sums and sums of
-//! squares, and the sums over two pictures of one size of which SSIM is made.
+//! Statistics of pictures: counts of pixels that pass a test, histograms, minimum and maximum, and sums of values and squares.
+//! For two pictures of the same size, it also computes the sums that SSIM, covariance and correlation require.
 //!
-//! Each is of what a plane shows, without its border, and is exact: integers that are wide enough for any picture. The module
-//! [`rows`] has the same of rows that are kept elsewhere.
+//! All functions read the visible pixels of a plane and ignore its padding. The results are exact, because the integers are
+//! wide enough for any picture. The module [`rows`] has the same functions for pixels that are kept outside a plane.
 #![tactic(auto)]
 
 mod counts;

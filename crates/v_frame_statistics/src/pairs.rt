@@ -1,4 +1,4 @@
-//! Sums over two planes of one size.
+//! Sums over two planes of the same size.
 ghost use Rattle.std.specs.Prelude.{◌≡◌};
 ghost use Rattle.v_frame.specs.Prelude.{row_major, table_of};
 ghost use Rattle.v_frame_statistics.specs.PairSums.{ArePairSums};
@@ -8,8 +8,8 @@ use crate::rows::PairSums;
 use v_frame::pixel::Pixel;
 use v_frame::plane::PlaneRef;
 
-/// Returns the sums over the visible pixels of two planes of one size of which SSIM, covariance and correlation are made.
-/// Those of a block are the sums over a [`region`](PlaneRef::region) of each plane.
+/// Returns the sums over the visible pixels of two planes of the same size from which SSIM, covariance and correlation are
+/// computed. For the sums over a block, pass a [`region`](PlaneRef::region) of each plane.
 pub fn pair_sums<T: Pixel>(a: &PlaneRef<'_, T>, b: &PlaneRef<'_, T>) -> PairSums
     requires wide { a.now.geometry.width ≡ b.now.geometry.width }
     requires high { a.now.geometry.height ≡ b.now.geometry.height }

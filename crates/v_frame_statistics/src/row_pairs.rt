@@ -1,4 +1,4 @@
-//! Sums over two rows, in blocks for which narrow sums suffice: of these the compiler makes packed code.
+//! Sums over two rows, in blocks whose sums fit narrow integers, so that the compiler vectorizes the loops.
 ghost use Rattle.std.specs.Prelude.{◌≡◌, ◌*◌, ◌<◌, ◌≤◌, All, length};
 ghost use Rattle.v_frame_statistics.specs.PairSums.{ArePairSums, PairSumsAtMost};
 
@@ -8,7 +8,7 @@ use crate::row_sums::{
 use crate::rows::PairSums;
 use v_frame::pixel::Pixel;
 
-/// Returns the sums over two rows.
+/// Returns the sums over two rows of the same length.
 pub(crate) fn sums_of_two_rows<T: Pixel>(a: &[T], b: &[T]) -> PairSums
     requires { length b.now ≡ length a.now }
     ensures value { ArePairSums T.form.value a.now b.now result }
@@ -40,8 +40,8 @@ pub(crate) fn sums_of_two_rows<T: Pixel>(a: &[T], b: &[T]) -> PairSums
     }
 }
 
-/// The same of a few pixels. Nothing is tested first, and 64 bits suffice for each sum: of few pixels it is the end, where the
-/// lanes of each are added up, that takes longest.
+/// Returns the sums over two short rows. It checks no values first and uses 64-bit sums, because for short rows most of the
+/// time is spent on adding the vector lanes at the end.
 fn sums_of_two_short_rows<T: Pixel>(a: &[T], b: &[T]) -> PairSums
     requires same { length b.now ≡ length a.now }
     requires short { length a.now < 64 }
@@ -83,7 +83,7 @@ fn sums_of_two_blocks<T: Pixel>(a: &[T], b: &[T]) -> PairSums
     }
 }
 
-/// The same of small values.
+/// Returns the sums over two blocks of small values.
 fn sums_of_two_small_blocks<T: Pixel>(a: &[T], b: &[T]) -> PairSums
     requires first { All (λ p. T.form.value p < 1024) a.now }
     requires second { All (λ p. T.form.value p < 1024) b.now }
@@ -111,7 +111,8 @@ fn sums_of_two_small_blocks<T: Pixel>(a: &[T], b: &[T]) -> PairSums
     }
 }
 
-/// The same of any values. The low and the high halves of the products are summed apart: for each 32 bits suffice.
+/// Returns the sums over two blocks of any values. The low and the high halves of the products are summed separately, so that
+/// 32 bits suffice for each sum.
 fn sums_of_two_wide_blocks<T: Pixel>(a: &[T], b: &[T]) -> PairSums
     requires same { length b.now ≡ length a.now }
     requires short { length a.now ≤ 4096 }

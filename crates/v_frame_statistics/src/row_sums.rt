@@ -1,11 +1,11 @@
-//! Sums over rows, in blocks for which narrow sums suffice: of these the compiler makes packed code.
+//! Sums over rows, in blocks whose sums fit narrow integers, so that the compiler vectorizes the loops.
 ghost use Rattle.std.specs.Prelude.{◌≡◌, ◌+◌, ◌*◌, ◌/◌, ◌%◌, ◌<◌, ◌≤◌, ◌↔◌, All, IsTrue, length};
 ghost use Rattle.v_frame_statistics.specs.RowSums.{AreValueSums, ValueSumsAtMost};
 ghost use Rattle.v_frame_statistics.specs.Sums.{sum_of_values};
 
 use v_frame::pixel::Pixel;
 
-/// What the values of some pixels add up to.
+/// The sum of some values and the sum of their squares.
 #[derive(Clone, Copy)]
 pub(crate) struct ValueSums {
     pub(crate) values: u128,
@@ -59,7 +59,8 @@ fn values_of_block<T: Pixel>(block: &[T]) -> u32
     sum
 }
 
-/// Returns both sums of a block. The low and the high halves of the squares are summed apart: for each 32 bits suffice.
+/// Returns the sum of the values of a block and the sum of their squares. The low and the high halves of the squares are summed
+/// separately, so that 32 bits suffice for each sum.
 fn sums_of_block<T: Pixel>(block: &[T]) -> ValueSums
     requires { length block.now ≤ 4096 }
     ensures value { AreValueSums T.form.value block.now result }
@@ -95,7 +96,7 @@ pub(crate) fn high_half(product: u32) -> u32
     product >> 16
 }
 
-/// Returns the sum of products of which the low and the high halves were summed.
+/// Returns the sum of products from the sums of their low and high halves.
 #[inline(always)]
 pub(crate) fn joined_halves(low: u32, high: u32) -> u128
     ensures { result ≡ low + 65536 * high }
@@ -103,8 +104,9 @@ pub(crate) fn joined_halves(low: u32, high: u32) -> u128
     u128::from(low) + (u128::from(high) << 16)
 }
 
-/// Returns whether all values of a block are below 1024, as those of up to 10 bits are: sums of 4096 products of such values
-/// fit 32 bits. Of bytes the compiler knows it, and most blocks of wider values have a larger one among their first.
+/// Returns whether all values of a block are below 1024, as values of up to 10 bits are. Sums of 4096 products of such values
+/// fit 32 bits. For bytes the compiler knows the result. For most blocks with larger values, the test ends after the first 64
+/// pixels.
 pub(crate) fn are_small<T: Pixel>(block: &[T]) -> bool
     ensures { IsTrue result ↔ All (λ p. T.form.value p < 1024) block.now }
 {

@@ -1,6 +1,6 @@
-//! The same of rows that are kept elsewhere, each a stride after the one before, as decoders lay pictures out.
+//! The statistics for pixels that are kept outside a [`Plane`](v_frame::plane::Plane), for example in the buffer of a decoder.
 //!
-//! What is read is a [`RowsRef`](v_frame::plane::RowsRef). The calls of planes are made of these.
+//! An input is a [`RowsRef`](v_frame::plane::RowsRef). The functions for planes call these functions.
 
 mod counts;
 mod extremes;

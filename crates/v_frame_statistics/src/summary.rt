@@ -1,4 +1,4 @@
-//! Sums and extremes of a plane at once.
+//! Sums and extremes of a plane in one pass.
 ghost use Rattle.std.specs.Prelude.{◌≡◌, ◌*◌, ◌<◌, length};
 ghost use Rattle.v_frame.specs.Prelude.{row_major, table_of};
 ghost use Rattle.v_frame_statistics.specs.Extremes.{IsGreatest, IsLeast};
@@ -9,8 +9,8 @@ use crate::rows::PictureStatistics;
 use v_frame::pixel::Pixel;
 use v_frame::plane::PlaneRef;
 
-/// Returns the sums of which mean and variance are made, and the least and the greatest pixel, of what is visible, and reads
-/// each row once.
+/// Returns the sums from which the mean and the variance of the visible pixels are computed, and their minimum and maximum.
+/// Each row is read once.
 pub fn statistics<T: Pixel>(plane: &PlaneRef<'_, T>) -> PictureStatistics<T>
     ensures sum { result.sum ≡ sum_of_values T.form.value (row_major (table_of plane.now)) }
     ensures squares { result.sum_of_squares ≡ sum_of_squares T.form.value (row_major (table_of plane.now)) }

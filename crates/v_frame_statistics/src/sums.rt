@@ -1,4 +1,4 @@
-//! Sums of the values of a plane and of their squares, of which means and variances are made.
+//! Sums of the values of a plane and of their squares, from which the mean and the variance are computed.
 ghost use Rattle.std.specs.Prelude.{◌≡◌, ◌*◌, ◌<◌, ◌≤◌, length};
 ghost use Rattle.v_frame.specs.Prelude.{row_major, table_of};
 ghost use Rattle.v_frame_statistics.specs.Sums.{sum_of_squares, sum_of_values};
@@ -8,7 +8,7 @@ use crate::rows::{SumAndCount, VarianceSums};
 use v_frame::pixel::Pixel;
 use v_frame::plane::PlaneRef;
 
-/// Returns the sum of the values of all visible pixels. It is exact, and never too large.
+/// Returns the sum of the values of all visible pixels. The sum is exact and never overflows.
 pub fn sum<T: Pixel>(plane: &PlaneRef<'_, T>) -> u128
     ensures value { result ≡ sum_of_values T.form.value (row_major (table_of plane.now)) }
     ensures bound { result ≤ 65536 * (plane.now.geometry.height * plane.now.geometry.width) }
@@ -16,7 +16,7 @@ pub fn sum<T: Pixel>(plane: &PlaneRef<'_, T>) -> u128
     rows::sum(&plane.as_rows_ref())
 }
 
-/// Returns the two numbers whose quotient is the mean of the visible pixels.
+/// Returns the sum of the values of all visible pixels and their number. The quotient of the two is the mean.
 pub fn sum_and_count<T: Pixel>(plane: &PlaneRef<'_, T>) -> SumAndCount
     ensures sum { result.sum ≡ sum_of_values T.form.value (row_major (table_of plane.now)) }
     ensures count { result.count ≡ length (row_major (table_of plane.now)) }
@@ -26,8 +26,7 @@ pub fn sum_and_count<T: Pixel>(plane: &PlaneRef<'_, T>) -> SumAndCount
     rows::sum_and_count(&plane.as_rows_ref())
 }
 
-/// Returns the sums of which the variance of the visible pixels is made: it is `sum_of_squares / count` less the square of
-/// `sum / count`.
+/// Returns the sums from which the variance of the visible pixels is computed: `sum_of_squares / count - (sum / count)^2`.
 pub fn variance_sums<T: Pixel>(plane: &PlaneRef<'_, T>) -> VarianceSums
     ensures sum { result.sum ≡ sum_of_values T.form.value (row_major (table_of plane.now)) }
     ensures squares { result.sum_of_squares

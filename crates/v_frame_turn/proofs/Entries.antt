@@ -1,4 +1,5 @@
--- A pixel written among rows of a stride: it is there, all others are as they were, and what was right stays right.
+-- A pixel written into the rows of a buffer: this pixel has its final value, all other pixels are unchanged, and final
+-- values stay.
 use Rattle.std.proofs.Common.{ℕ, ◌≡◌, ◌≢◌, ◌+◌, ◌*◌, ◌<◌, ◌≤◌, List, length, take, drop, Option, Some, slice_get}
 use Rattle.std.proofs.Common.{slice_set, inl, inr}
 use Rattle.std.proofs.Common.{Bool, option_and_then, sym, ◌∙◌, ap, arith, length-set, length-take-le, length-drop}
@@ -10,7 +11,7 @@ use Rattle.v_frame_raster.proofs.tables.StridedWrites.{row_ends, row_put, rest_p
 use Rattle.v_frame_turn.specs.Turning.{index_from, turned_pixel, ColumnIsRight, KeepsRight}
 use borrow.Rule.Slice.PartMut.{put_mid}
 
--- the place of a pixel is within the list
+-- The index of a pixel is inside the list.
 pub entry_within : (w h s entries x y : ℕ) → RowsFit w h s entries → x < w → y < h → s * y + x < entries
 entry_within w h s entries x y fit across high = omega (arith, row_ends w h s entries y fit high)
 
@@ -72,7 +73,8 @@ module _ {T : Type 0} (w h s : ℕ) (xs : List T) (x y : ℕ) (p : T) (fit : Row
     | inr apart ↦ other_row i j apart ∙ was
   ]
 
--- two columns are right in the rows from one on and above another, what was right stays so, and all else is as it was
+-- Two columns have their final values in the rows from `from` to below `y`. Final values stay, and everything else is
+-- unchanged.
 pub record ColumnsRight {T : Type 0} (right : ℕ → ℕ → Option T) (w h s : ℕ) (old now : List T) (x next from y : ℕ)
     : Type 0 where
   pub column : ColumnIsRight right (strided_rows w h s now) x from y
@@ -89,7 +91,7 @@ module _ {T : Type 0} (right : ℕ → ℕ → Option T) (w h s : ℕ) where
     rest = rest_same w h s xs;
   }
 
-  -- one more row
+  -- The loop step: one more row.
   pub one_more_right : (old xs : List T) (x next from y : ℕ) (p q : T) → RowsFit w h s (length old) → length xs
       ≡ length old → x < w → next < w → y < h → right x y ≡ Some p → right next y ≡ Some q
       → ColumnsRight right w h s old xs x next from y
@@ -120,7 +122,7 @@ module _ {T : Type 0} (right : ℕ → ℕ → Option T) (w h s : ℕ) where
             (rest_entry w h s first next y q fits' next_across high);
       }
 
--- what was read in the source at the counted indexes is the turned pixel
+-- The pixel that is read from the source at the counted indexes is the pixel of the transformed table.
 pub read_turned : {T : Type 0} (source : Table T) (w h : ℕ) (from_right from_bottom : Bool) (x y at column : ℕ)
     (row : List T) (p : T) → height_of source ≡ w → width_of source ≡ h → at ≡ index_from from_bottom w x → column
     ≡ index_from from_right h y → slice_get source at ≡ Some row → slice_get row column ≡ Some p

@@ -1,4 +1,4 @@
--- Loops that exchange the items of a list from both ends.
+-- Loops that swap the items of a list from both ends.
 use Rattle.std.proofs.Common.{ℕ, ◌≡◌, ◌≢◌, ◌+◌, ◌-◌, ◌<◌, ◌≤◌, List, length, map, Some, reverse, slice_get}
 use Rattle.std.proofs.Common.{slice_set, refl, sym, ◌∙◌, inl, inr, arith, option_map, length-set}
 use Rattle.std.proofs.lemmas.Bool.{cases_lt}
@@ -7,9 +7,7 @@ use Rattle.std.proofs.lemmas.Option.{slice_get-map}
 use Rattle.v_frame_raster.proofs.tables.Lists.{set_is_read, others_are_read}
 use Rattle.v_frame_raster.proofs.tables.ListItems.{is_reverse}
 
--- the first and the last so many items of a list became, the other way round, those that a function gives at them,
--- and the
--- others are as they were
+-- The first `i` and the last `i` items are swapped, and `of` is applied to them. The other items are unchanged.
 pub record ExchangedBelow {X : Type 0} (of : X → X) (old now : List X) (i : ℕ) : Type 0 where
   pub count : length now ≡ length old
   pub low : (k : ℕ) → k < i → slice_get now k ≡ option_map of (slice_get old (length old - 1 - k))
@@ -26,7 +24,7 @@ module _ {X : Type 0} (of : X → X) where
     between = λ k from h. refl;
   }
 
-  -- one more item and the one as far from the end
+  -- The loop step: one more item and its counterpart from the end.
   pub one_more_exchanged : (old now : List X) (i j : ℕ) (p q p' q' : X) → i + j + 1 ≡ length old → i < j
       → ExchangedBelow of old now i → slice_get now i ≡ Some p → slice_get now j ≡ Some q → p' ≡ of p → q' ≡ of q
       → ExchangedBelow of old (slice_set (slice_set now i q') j p') (i + 1)
@@ -58,7 +56,7 @@ module _ {X : Type 0} (of : X → X) where
         between = λ k from h. others k (omega arith) (omega arith) ∙ so_far.between k (omega arith) (omega arith);
       }
 
-  -- where all items but the one in the middle became those of the other end, and so did that one, the list is reversed
+  -- If every item was replaced by its counterpart from the other end, the middle item included, the list is reversed.
   ends_exchanged : (old now : List X) (i : ℕ) → length now ≡ length old → length old ≤ i + i + 1
       → ((k : ℕ) → k < i → slice_get now k ≡ option_map of (slice_get old (length old - 1 - k)))
       → ((k : ℕ) → k < length old → length old ≤ k + i → slice_get now k
@@ -82,13 +80,13 @@ module _ {X : Type 0} (of : X → X) where
         ]
       ]))
 
-  -- without an item in the middle
+  -- For a list without a middle item.
   pub all_exchanged : (old now : List X) (i : ℕ) → ExchangedBelow of old now i → length old ≡ i + i → now
       ≡ reverse (map of old)
   all_exchanged old now i done end =
       ends_exchanged old now i done.count (omega arith) done.low done.high (λ k here. absurd (omega arith))
 
-  -- with one, which is changed last
+  -- For a list with a middle item, which is changed last.
   pub all_exchanged_round : (old now : List X) (i : ℕ) (p q : X) → ExchangedBelow of old now i → i + i + 1 ≡ length old
       → slice_get now i ≡ Some p → q ≡ of p → slice_set now i q ≡ reverse (map of old)
   all_exchanged_round old now i p q done end is made =

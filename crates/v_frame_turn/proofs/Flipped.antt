@@ -1,4 +1,4 @@
--- Which row of a table is one of the flipped table.
+-- The row of a table that becomes row `y` of the flipped table.
 use Rattle.std.proofs.Common.{ℕ, ◌≡◌, ◌<◌, Bool, false, true, List, length, map, Some, slice_get, refl, sym, ◌∙◌, ap}
 use Rattle.std.proofs.lemmas.List.{length-map, length-reverse}
 use Rattle.v_frame.specs.Prelude.{Table, height_of}

@@ -1,4 +1,4 @@
--- Turns of tables one after the other.
+-- Several rotations, flips and transpositions of tables in a row.
 use Rattle.std.proofs.Common.{ℕ, zero, suc, ◌≡◌, ◌-◌, ◌<◌, List, [], ◌∷◌, ◌++◌, length, map, drop, take, reverse, Some}
 use Rattle.std.proofs.Common.{Option, None, option_map, option_and_then, slice_get, refl, sym, ◌∙◌, ap, arith}
 use Rattle.std.proofs.Common.{append-nil}
@@ -14,7 +14,7 @@ use Rattle.v_frame_turn.proofs.Transposed.{Wide, columns_are_high, columns_hold,
 use Rattle.v_frame_turn.proofs.Transposed.{reversed_is_wide, width_of_wide}
 
 module _ {T : Type 0} where
-  -- what is mirrored twice is what it was
+  -- Mirroring a table twice leaves it unchanged.
   pub mirrored_twice : (rows : Table T) → map reverse (map reverse rows) ≡ rows
   mirrored_twice [] = refl
   mirrored_twice (row ∷ rows) = rw (reverse-reverse row, mirrored_twice rows) refl
@@ -28,7 +28,7 @@ module _ {T : Type 0} where
   one_at_most [] = refl
   one_at_most (p ∷ row) = refl
 
-  -- the first column of a table upside down
+  -- The first column of a table that is flipped upside down.
   first_upside_down : (rows : Table T) → flat_map (take 1) (reverse rows) ≡ reverse (flat_map (take 1) rows)
   first_upside_down [] = refl
   first_upside_down (row ∷ rows) =
@@ -38,7 +38,7 @@ module _ {T : Type 0} where
       ∙ ap (λ r. reverse (flat_map (take 1) rows) ++ r) (append-nil first ∙ sym (one_at_most row))
       ∙ sym (reverse-append first (flat_map (take 1) rows))
 
-  -- the columns of a table upside down are its columns, each from its end
+  -- The columns of a table that is flipped upside down are its columns, each reversed.
   columns_upside_down : (n : ℕ) (rows : Table T) → columns n (reverse rows) ≡ map reverse (columns n rows)
   columns_upside_down zero rows = refl
   columns_upside_down (suc n) rows =
@@ -97,7 +97,7 @@ module _ {T : Type 0} where
     pixel_transposed x y across down =
         ap (λ t. pixel_at t x y) transposed_is ∙ columns_hold w rows size.rows_are_wide y x down
 
-    -- upside down, and then transposed, is transposed, and then mirrored
+    -- Flipping upside down and then transposing equals transposing and then mirroring.
     pub upside_down_first : transposed (reverse rows) ≡ map reverse (transposed rows)
     upside_down_first =
         let upper : width_of (reverse rows) ≡ w =
@@ -121,7 +121,7 @@ module _ {T : Type 0} where
     turned' : HasSize (transposed rows) h w
     turned' = size_transposed rows w h size
 
-    -- mirrored, and then transposed, is transposed, and then upside down
+    -- Mirroring and then transposing equals transposing and then flipping upside down.
     pub mirrored_first : transposed (map reverse rows) ≡ reverse (transposed rows)
     mirrored_first =
         let upside_down = size_reversed (transposed rows) h w turned' in

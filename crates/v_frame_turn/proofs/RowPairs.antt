@@ -1,4 +1,4 @@
--- Two rows of a stride exchanged through the two parts that a list is split into.
+-- Two rows of a buffer swapped after the buffer was split between them.
 use Rattle.std.proofs.Common.{ℕ, ◌≡◌, ◌+◌, ◌*◌, ◌<◌, ◌≤◌, List, ◌++◌, length, take, drop, Some, slice_get, refl, sym}
 use Rattle.std.proofs.Common.{◌∙◌, ap}
 use Rattle.std.proofs.Common.{slice_set, arith, append_assoc, length-append, length-take-le, length-drop}
@@ -11,7 +11,7 @@ use Rattle.v_frame_turn.proofs.Exchanged.{ExchangedBelow, one_more_exchanged}
 use borrow.Rule.Slice.PartMut.{put_mid}
 
 module _ {X : Type 0} where
-  -- what is put into the first part of a list is put into the list
+  -- A write into the first part of a list is a write into the list.
   put_in_front : (p q a : List X) (at w : ℕ) → at + w ≤ length p → put_mid at w (p ++ q) a ≡ put_mid at w p a ++ q
   put_in_front p q a at w ends =
       rw (
@@ -24,7 +24,7 @@ module _ {X : Type 0} where
   length-put p a at w ends long =
       simp (length-append, length-take-le at p (omega (arith, ends)), length-drop) (omega (arith, ends, long))
 
-  -- what is put into each of two parts is put into the list
+  -- A write into each of two parts is a write into the list.
   two_parts : (p q a b : List X) (at w : ℕ) → at + w ≤ length p → length a ≡ w
       → put_mid at w p a ++ (b ++ drop w q) ≡ put_mid (length p) w (put_mid at w (p ++ q) a) b
   two_parts p q a b at w ends long =
@@ -32,14 +32,14 @@ module _ {X : Type 0} where
       let same : length front ≡ length p = length-put p a at w ends long in
       rw (put_in_front p q a at w ends, take_at front q (length p) same, drop_at front q (length p) same) refl
 
--- a buffer whose rows were exchanged so far, and of which all else is as it was
+-- The buffer after rows were swapped up to row `y`. Everything else is unchanged.
 pub record RowsExchanged {X : Type 0} (of : List X → List X) (width height stride : ℕ) (old now : List X) (y : ℕ) : Type
     0
   where
     pub rows : ExchangedBelow of (strided_rows width height stride old) (strided_rows width height stride now) y
     pub rest : KeepsRest width height stride old now
 
--- one more pair of rows: the list was split where the lower one begins
+-- The loop step: one more pair of rows. The list was split at the start of the lower row.
 module _ {X : Type 0} (of : List X → List X) (w h s : ℕ) (old xs p q a b : List X) (y j : ℕ)
     (fit : RowsFit w h s (length old)) (same : length xs ≡ length old) (is : xs ≡ p ++ q) (at : length p ≡ s * j)
     (pair : y + j + 1 ≡ h) (apart : y < j) (long : length a ≡ w) (long' : length b ≡ w) (upper : a ≡ of (take w q))

@@ -1,4 +1,4 @@
--- Transposed tables: their sizes, their pixels, and what is left when they are turned again.
+-- Transposed tables: their sizes, their pixels, and the results of further transpositions and flips.
 use Rattle.std.proofs.Common.{ℕ, zero, suc, ◌≡◌, ◌-◌, ◌<◌, All, List, [], ◌∷◌, length, map, drop, take, reverse, Some}
 use Rattle.std.proofs.Common.{Option, None, option_map, option_and_then, slice_get, refl, sym, ◌∙◌, ap, arith}
 use Rattle.std.proofs.Common.{length-drop}
@@ -11,12 +11,12 @@ use Rattle.v_frame_raster.proofs.tables.Strides.{AreRows, height_is, rows_are_wi
 use Rattle.v_frame_raster.proofs.tables.ListItems.{same_by_pixel_at, slice_get-reverse}
 use Rattle.v_frame_turn.specs.Turn.{columns, transposed}
 
--- each row of a table has so many pixels
+-- Each row of a table has this number of pixels.
 abbrev pub Wide : {T : Type 0} → ℕ → Table T → Type 0
 Wide width rows = All (λ row. length row ≡ width) rows
 
 module _ {T : Type 0} where
-  -- the rows without their first pixels
+  -- The rows without their first pixels.
   abbrev rest : Table T → Table T
   rest rows = map (drop 1) rows
 
@@ -27,7 +27,7 @@ module _ {T : Type 0} where
       (omega (arith, length-drop 1 row, All-head (λ r. length r ≡ suc n) row rows wide))
       (rest_is_wide n rows (All-tail (λ r. length r ≡ suc n) row rows wide))
 
-  -- a column is as long as the table is high
+  -- A column has as many pixels as the table has rows.
   length-column : (n : ℕ) (rows : Table T) → Wide (suc n) rows → length (flat_map (take 1) rows) ≡ length rows
   length-column n [] wide = refl
   length-column n ([] ∷ rows) wide = absurd (omega (arith, All-head (λ r. length r ≡ suc n) [] rows wide))
@@ -46,7 +46,7 @@ module _ {T : Type 0} where
       (length-column n rows wide)
       (rw same at (columns_are_high n (rest rows) (rest_is_wide n rows wide)))
 
-  -- the pixels of the first column are the first of the rows
+  -- The pixels of the first column are the first pixels of the rows.
   first_column : (n : ℕ) (rows : Table T) (y : ℕ) → Wide (suc n) rows → slice_get (flat_map (take 1) rows) y
       ≡ pixel_at rows 0 y
   first_column n [] y wide = refl
@@ -65,7 +65,7 @@ module _ {T : Type 0} where
   pixel_of_rest rows x y =
       ap (option_and_then (λ r. slice_get r x)) (slice_get-map (drop 1) rows y) ∙ after_first x (slice_get rows y)
 
-  -- the pixels of the columns are those of the rows
+  -- The pixels of the columns are the pixels of the rows.
   pub columns_hold : (n : ℕ) (rows : Table T) → Wide n rows → (x y : ℕ) → x < n → pixel_at (columns n rows) y x
       ≡ pixel_at rows x y
   columns_hold zero rows wide x y h = absurd (omega arith)
@@ -86,7 +86,7 @@ module _ {T : Type 0} where
       ≡ pixel_at rows x (length rows - 1 - y)
   pixel_of_reversed rows x y h = ap (option_and_then (λ r. slice_get r x)) (slice_get-reverse rows y h)
 
--- the rows of a stride are a table that has their size and their pixels
+-- The rows of a buffer are a table if they have its size and its pixels.
 module _ {T : Type 0} (w h s : ℕ) (xs : List T) (source : Table T) (fit : RowsFit w h s (length xs))
     (wide : Wide h source) (count : height_of source ≡ w) where
   abbrev shown : Table T
@@ -124,7 +124,7 @@ module _ {T : Type 0} (w h s : ℕ) (xs : List T) (source : Table T) (fit : Rows
       each x y i j ∙ sym (columns_hold h source wide (h - 1 - y) x (omega arith))
       ∙ ap (pixel_at turned x) (sym far) ∙ sym (pixel_of_reversed turned x y (omega (arith, long)))))
 
--- the same upside down
+-- The rows of a buffer are the rotated table if they have its size and its pixels.
 pub shown_rotated_90 : {T : Type 0} (w h s : ℕ) (xs : List T) (source : Table T) → RowsFit w h s (length xs) → Wide h
     source
     → height_of source ≡ w

@@ -1,4 +1,5 @@
--- Frames turned: what each plane shows then, and when one frame can show another one turned.
+-- Rotated, mirrored and transposed frames: the planes of the result, and the conditions under which
+-- one frame can hold the result of another.
 use Rattle.std.specs.Prelude.{ℕ, ◌≡◌, ◌≢◌, ◌<◌, ◌==◌, if◌then◌else◌, ⊤, Bool, true, false, map, reverse}
 use Rattle.std.specs.Prelude.{Option, Some, None, option_map, Result, Err, IfErr, OnErr, OnOk}
 use Rattle.std.specs.Int.NonZero.{non_zero_u8_get}
@@ -15,7 +16,7 @@ use Rattle.v_frame_turn.specs.declared.error.TurnError.TheVariants.{DifferentSub
 use Rattle.v_frame_turn.specs.declared.error.TurnError.TheVariants.{DifferentBitDepth}
 use Rattle.v_frame_turn.specs.declared.error.TurnError.TheVariants.{DifferentSize}
 
--- rows become columns, so width and height are exchanged
+-- Rows become columns, so the width and the height are exchanged.
 abbrev pub exchanges : TheTurn → Bool
 exchanges FlipVertical = false
 exchanges FlipHorizontal = false
@@ -24,17 +25,18 @@ exchanges Transpose = true
 exchanges Rotate90 = true
 exchanges Rotate270 = true
 
--- chroma has as many columns for one of luma as it has rows
+-- Chroma is subsampled by the same ratio in both directions, or the frame is monochrome.
 abbrev pub even_ratio : Option (ℕ × ℕ) → Bool
 even_ratio None = true
 even_ratio (Some ratio) = ratio.0 == ratio.1
 
--- where rows become columns, only such chroma can be turned
+-- A format exists for the transformed chroma. If rows become columns, the two subsampling ratios
+-- must be equal.
 abbrev pub is_turnable : TheTurn → ChromaSubsampling → Bool
 is_turnable turn subsampling =
     if exchanges turn then even_ratio (ratio_of subsampling) else true
 
--- a size is another one, or that one exchanged
+-- A size equals another size, or that size with width and height exchanged.
 abbrev pub SizeFits : Bool → ℕ → ℕ → ℕ → ℕ → Type 0
 SizeFits false width height target_width target_height =
     (width ≡ target_width) × (height ≡ target_height)
@@ -50,25 +52,25 @@ module _ {T : Type 0} where
   turned Rotate90 rows = rotated_90 rows
   turned Rotate270 rows = rotated_270 rows
 
-  -- each table of a frame turned
+  -- Each plane of a frame, transformed by `turn`.
   abbrev pub turned_tables : (Table T → Table T) → Tables T → Tables T
   turned_tables turn tables =
       record { y = turn tables.y; u = option_map turn tables.u; v = option_map turn tables.v }
 
-  -- a plane has the size of another one, or that size exchanged
+  -- `target` has the size of `source`, or that size with width and height exchanged.
   abbrev pub PlaneFits : Bool → Raster T → Raster T → Type 0
   PlaneFits exchanged source target =
       SizeFits exchanged source.geometry.width source.geometry.height target.geometry.width
       target.geometry.height
 
-  -- both planes are there, and one fits the other, or both are absent
+  -- Both planes exist and the target has the required size, or both are missing.
   abbrev pub BothFit : Bool → Option (Raster T) → Option (Raster T) → Type 0
   BothFit exchanged (Some source) (Some target) = PlaneFits exchanged source target
   BothFit exchanged None None = ⊤
   BothFit exchanged source target = ⊥
 
-  -- a frame can show another one turned: chroma of it can be turned so, and format, bit depth and
-  -- sizes are right
+  -- `target` can hold the transformed `source`: a format exists for the transformed chroma, and the
+  -- chroma formats, the bit depths and the sizes correspond.
   pub record TurnFits (turn : TheTurn) (source target : Frame T) : Type 0 where
     pub turnable : is_turnable turn source.subsampling ≡ true
     pub subsampling : target.subsampling ≡ source.subsampling
@@ -77,7 +79,8 @@ module _ {T : Type 0} where
     pub u_plane : BothFit (exchanges turn) source.u_plane target.u_plane
     pub v_plane : BothFit (exchanges turn) source.v_plane target.v_plane
 
-  -- why it can't: the first reason that holds, of planes that of the least index
+  -- The reason why `target` cannot hold the transformed `source`: the first one that holds, and for
+  -- sizes the plane with the smallest index.
   abbrev pub IsReason : TheTurn → Frame T → Frame T → TurnError → Type 0
   IsReason turn source target UnevenSubsampling = is_turnable turn source.subsampling ≡ false
   IsReason turn source target DifferentSubsampling =
@@ -92,7 +95,8 @@ module _ {T : Type 0} where
       → BothFit (exchanges turn) (plane_at source k) (plane_at target k))
       × ¬ BothFit (exchanges turn) (plane_at source plane) (plane_at target plane)
 
-  -- a frame shows another one turned, where it can, and else is as it was
+  -- `new` is the target after the call. It holds the transformed `source` if the frames correspond,
+  -- and otherwise it is unchanged.
   pub record IsTurned {A : Type 0} (turn : TheTurn) (source old new : Frame T)
       (result : Result A TurnError) : Type 0 where
     pub shown : OnOk result (tables_of new ≡ turned_tables (turned turn) (tables_of source))

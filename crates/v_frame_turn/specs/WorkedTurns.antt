@@ -1,4 +1,5 @@
--- A table turned by hand. Each line computes: it is proved by `refl`.
+-- A table that is rotated, mirrored and transposed by hand. Each line is proved by computation
+-- (`refl`).
 use Rattle.std.specs.Prelude.{ℕ, ◌≡◌, [], ◌∷◌, map, reverse, refl}
 use Rattle.v_frame.specs.Prelude.{Table}
 use Rattle.v_frame_turn.specs.Turn.{transposed, rotated_90, rotated_180, rotated_270}
@@ -24,7 +25,7 @@ a_half = refl
 three_quarters : rotated_270 two_rows ≡ (3 ∷ 6 ∷ []) ∷ (2 ∷ 5 ∷ []) ∷ (1 ∷ 4 ∷ []) ∷ []
 three_quarters = refl
 
--- no row, and rows without a pixel
+-- A table without rows, and a table whose rows have no pixels.
 no_rows : transposed {T = ℕ} [] ≡ []
 no_rows = refl
 

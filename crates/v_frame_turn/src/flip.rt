@@ -1,4 +1,4 @@
-//! Planes upside down, mirrored, or both. Borders stay.
+//! Planes flipped upside down, mirrored, or rotated by 180 degrees. The padding stays unchanged.
 ghost use Rattle.std.specs.Prelude.{◌≡◌, map, reverse};
 ghost use Rattle.v_frame.specs.Prelude.{table_of, KeepsBorder};
 ghost use Rattle.v_frame_turn.specs.Turn.{rotated_180};
@@ -8,7 +8,8 @@ use crate::turns::{Turn, turn_plane};
 use v_frame::pixel::Pixel;
 use v_frame::plane::{Plane, PlaneRef, VisibleMut};
 
-/// Shows in `target` what `source` shows upside down, as `np.flipud` does. Both have one size.
+/// Writes `source` upside down into `target`: the last row becomes the first, as with `np.flipud`. Both planes have the same
+/// size. The padding of `target` stays unchanged.
 pub fn flip_vertical<T: Pixel>(source: &PlaneRef<'_, T>, target: &mut Plane<T>)
     requires wide { source.now.geometry.width ≡ target.old.geometry.width }
     requires high { source.now.geometry.height ≡ target.old.geometry.height }
@@ -18,7 +19,8 @@ pub fn flip_vertical<T: Pixel>(source: &PlaneRef<'_, T>, target: &mut Plane<T>)
     turn_plane(source, target, Turn::FlipVertical);
 }
 
-/// Shows in `target` what `source` shows mirrored: each row from its right end, as `np.fliplr` does. Both have one size.
+/// Writes `source` mirrored left to right into `target`: the last pixel of each row becomes the first, as with `np.fliplr`.
+/// Both planes have the same size. The padding of `target` stays unchanged.
 pub fn flip_horizontal<T: Pixel>(source: &PlaneRef<'_, T>, target: &mut Plane<T>)
     requires wide { source.now.geometry.width ≡ target.old.geometry.width }
     requires high { source.now.geometry.height ≡ target.old.geometry.height }
@@ -28,7 +30,8 @@ pub fn flip_horizontal<T: Pixel>(source: &PlaneRef<'_, T>, target: &mut Plane<T>
     turn_plane(source, target, Turn::FlipHorizontal);
 }
 
-/// Shows in `target` what `source` shows turned by 180 degrees. Both have one size.
+/// Writes `source` rotated by 180 degrees into `target`. Both planes have the same size. The padding of `target` stays
+/// unchanged.
 pub fn rotate_180<T: Pixel>(source: &PlaneRef<'_, T>, target: &mut Plane<T>)
     requires wide { source.now.geometry.width ≡ target.old.geometry.width }
     requires high { source.now.geometry.height ≡ target.old.geometry.height }
@@ -38,7 +41,8 @@ pub fn rotate_180<T: Pixel>(source: &PlaneRef<'_, T>, target: &mut Plane<T>)
     turn_plane(source, target, Turn::Rotate180);
 }
 
-/// Turns what a plane shows upside down, as `np.flipud` does.
+/// Flips the visible pixels of `plane` upside down in place: the last row becomes the first, as with `np.flipud`. The padding
+/// stays unchanged.
 pub fn flip_vertical_in_place<T: Pixel>(plane: &mut Plane<T>)
     ensures table { table_of plane.new ≡ reverse (table_of plane.old) }
     ensures border { KeepsBorder plane.old plane.new }
@@ -52,7 +56,8 @@ pub fn flip_vertical_in_place<T: Pixel>(plane: &mut Plane<T>)
     rows::flip_vertical_in_place(entries, width, height, stride);
 }
 
-/// Mirrors what a plane shows: each row is turned to its right end, as `np.fliplr` does.
+/// Mirrors the visible pixels of `plane` left to right in place: the last pixel of each row becomes the first, as with
+/// `np.fliplr`. The padding stays unchanged.
 pub fn flip_horizontal_in_place<T: Pixel>(plane: &mut Plane<T>)
     ensures table { table_of plane.new ≡ map reverse (table_of plane.old) }
     ensures border { KeepsBorder plane.old plane.new }
@@ -66,7 +71,7 @@ pub fn flip_horizontal_in_place<T: Pixel>(plane: &mut Plane<T>)
     rows::flip_horizontal_in_place(entries, width, height, stride);
 }
 
-/// Turns what a plane shows by 180 degrees.
+/// Rotates the visible pixels of `plane` by 180 degrees in place. The padding stays unchanged.
 pub fn rotate_180_in_place<T: Pixel>(plane: &mut Plane<T>)
     ensures table { table_of plane.new ≡ rotated_180 (table_of plane.old) }
     ensures border { KeepsBorder plane.old plane.new }

@@ -1,7 +1,7 @@
-//! Frames turned: each plane is. Borders stay.
+//! Frames rotated, mirrored or transposed, plane by plane. The padding stays unchanged.
 //!
-//! Turned by a quarter or transposed, chroma exchanges its two ratios. So 4:2:0, 4:4:4 and monochrome frames can be turned
-//! so, and 4:2:2 and 4:1:1 can't: [`TurnError::UnevenSubsampling`].
+//! A rotation by 90 or 270 degrees and a transposition exchange the two subsampling ratios of chroma. They are possible for
+//! 4:2:0, 4:4:4 and monochrome frames. For 4:2:2 and 4:1:1 frames, [`turn_frame`] returns [`TurnError::UnevenSubsampling`].
 ghost use Rattle.std.specs.Prelude.{◌≡◌, ◌↔◌, false, option_map, true, Err, IfErr, IsTrue, OnOk};
 ghost use Rattle.v_frame.specs.Prelude.{border_and_geometry, table_of, tables_of, KeepsBorders};
 ghost use Rattle.v_frame_turn.specs.Frames.{exchanges, is_turnable, turned, turned_tables};
@@ -17,14 +17,17 @@ use v_frame::frame::Frame;
 use v_frame::pixel::Pixel;
 use v_frame::plane::Plane;
 
-/// Says whether `target` can show what `source` shows, turned in this way, and else why not: the first reason that holds.
+/// Returns `Ok` if [`turn_frame`] can write `source`, transformed by `turn`, into `target`.
 ///
 /// # Errors
 ///
-/// [`TurnError::UnevenSubsampling`] where rows become columns and the ratios of the source's chroma are not equal; else
-/// [`TurnError::DifferentSubsampling`] where the format is not that of the source; else [`TurnError::DifferentBitDepth`] where
-/// the bit depth is not; else [`TurnError::DifferentSize`] with the first plane that doesn't have the size of the source's,
-/// exchanged where rows become columns, or that only one of both frames has.
+/// Returns the first of these errors that applies:
+///
+/// - [`TurnError::UnevenSubsampling`] if `turn` exchanges rows and columns, and the two subsampling ratios of `source` differ;
+/// - [`TurnError::DifferentSubsampling`] if the frames have different chroma formats;
+/// - [`TurnError::DifferentBitDepth`] if the frames have different bit depths;
+/// - [`TurnError::DifferentSize`] with the first plane that only one of the frames has, or whose size in `target` is wrong. The
+///   required size is the size of the plane in `source`, with width and height exchanged if `turn` exchanges rows and columns.
 pub fn check_turn<T: Pixel>(
     source: &Frame<T>,
     target: &Frame<T>,
@@ -57,11 +60,12 @@ pub fn check_turn<T: Pixel>(
     Ok(())
 }
 
-/// Shows in `target` what `source` shows, turned in one of six ways. Where it is refused, the target is as it was.
+/// Writes `source`, transformed by `turn`, into `target`. The padding of `target` stays unchanged, and after an error all of
+/// `target` is unchanged.
 ///
 /// # Errors
 ///
-/// Those of [`check_turn`].
+/// Returns the errors of [`check_turn`].
 pub fn turn_frame<T: Pixel>(
     source: &Frame<T>,
     target: &mut Frame<T>,
@@ -74,7 +78,7 @@ pub fn turn_frame<T: Pixel>(
     Ok(())
 }
 
-/// Turns each plane.
+/// Transforms each plane.
 fn turn_planes<T: Pixel>(source: &Frame<T>, target: &mut Frame<T>, turn: Turn)
     requires { TurnFits turn source.now target.old }
     ensures shown { tables_of target.new ≡ turned_tables (turned turn) (tables_of source.now) }
@@ -85,7 +89,7 @@ fn turn_planes<T: Pixel>(source: &Frame<T>, target: &mut Frame<T>, turn: Turn)
     turn_chroma(&source.v_plane, &mut target.v_plane, turn);
 }
 
-/// Turns a chroma plane, where there is one.
+/// Transforms a chroma plane, if the frames have it.
 fn turn_chroma<T: Pixel>(source: &Option<Plane<T>>, target: &mut Option<Plane<T>>, turn: Turn)
     requires { BothFit (exchanges turn) source.now target.old }
     ensures shown { option_map table_of target.new
@@ -98,7 +102,8 @@ fn turn_chroma<T: Pixel>(source: &Option<Plane<T>>, target: &mut Option<Plane<T>
     }
 }
 
-/// Returns whether there is a format for turned chroma: where rows become columns, its ratios have to be equal.
+/// Returns whether a format exists for the transformed chroma: if `turn` exchanges rows and columns, the two subsampling ratios
+/// must be equal.
 fn can_turn(turn: Turn, subsampling: ChromaSubsampling) -> bool
     ensures { result ≡ is_turnable turn subsampling }
 {
@@ -108,7 +113,7 @@ fn can_turn(turn: Turn, subsampling: ChromaSubsampling) -> bool
     }
 }
 
-/// Returns whether a plane has the size of another one, or that size exchanged.
+/// Returns whether `target` has the size of `source`, with width and height exchanged if `exchanged` is true.
 fn plane_fits<T: Pixel>(exchanged: bool, source: &Plane<T>, target: &Plane<T>) -> bool
     ensures { IsTrue result ↔ PlaneFits exchanged source.now target.now }
 {
@@ -119,7 +124,7 @@ fn plane_fits<T: Pixel>(exchanged: bool, source: &Plane<T>, target: &Plane<T>) -
     }
 }
 
-/// Returns whether one plane fits the other, or both are absent.
+/// Returns whether `target` has the required size, or both planes are missing.
 fn both_fit<T: Pixel>(exchanged: bool, source: &Option<Plane<T>>, target: &Option<Plane<T>>) -> bool
     ensures { IsTrue result ↔ BothFit exchanged source.now target.now }
 {

@@ -1,4 +1,4 @@
-//! Pictures turned: flipped upside down or left to right, turned by quarters, and transposed.
+//! Pictures rotated by multiples of 90 degrees, flipped upside down, mirrored left to right, and transposed.
 #![tactic(auto)]
 
 mod error;

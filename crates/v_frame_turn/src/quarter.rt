@@ -1,4 +1,4 @@
-//! Planes transposed, or turned by a quarter. Borders stay.
+//! Planes transposed, or rotated by 90 or 270 degrees. The padding stays unchanged.
 ghost use Rattle.std.specs.Prelude.{◌≡◌};
 ghost use Rattle.v_frame.specs.Prelude.{table_of, KeepsBorder};
 ghost use Rattle.v_frame_turn.specs.Turn.{rotated_270, rotated_90, transposed};
@@ -7,9 +7,10 @@ use crate::turns::{Turn, turn_plane};
 use v_frame::pixel::Pixel;
 use v_frame::plane::{Plane, PlaneRef};
 
-/// Shows in `target` what `source` shows transposed: its columns become the rows, from the left, as NumPy's `.T` does.
+/// Writes `source` transposed into `target`: the pixel at column `x` of row `y` moves to column `y` of row `x`, as with NumPy's
+/// `.T`. The padding of `target` stays unchanged.
 ///
-/// The width of the target is the height of the source, and its height the width.
+/// The width of `target` equals the height of `source`, and its height equals the width of `source`.
 pub fn transpose<T: Pixel>(source: &PlaneRef<'_, T>, target: &mut Plane<T>)
     requires wide { source.now.geometry.height ≡ target.old.geometry.width }
     requires high { source.now.geometry.width ≡ target.old.geometry.height }
@@ -19,10 +20,10 @@ pub fn transpose<T: Pixel>(source: &PlaneRef<'_, T>, target: &mut Plane<T>)
     turn_plane(source, target, Turn::Transpose);
 }
 
-/// Shows in `target` what `source` shows turned by 90 degrees clockwise: its columns become the rows, from the left, each
-/// from the bottom, as `np.rot90(_, -1)` does.
+/// Writes `source` rotated by 90 degrees clockwise into `target`, as with `np.rot90(_, -1)`. The padding of `target` stays
+/// unchanged.
 ///
-/// The width of the target is the height of the source, and its height the width.
+/// The width of `target` equals the height of `source`, and its height equals the width of `source`.
 pub fn rotate_90<T: Pixel>(source: &PlaneRef<'_, T>, target: &mut Plane<T>)
     requires wide { source.now.geometry.height ≡ target.old.geometry.width }
     requires high { source.now.geometry.width ≡ target.old.geometry.height }
@@ -32,10 +33,10 @@ pub fn rotate_90<T: Pixel>(source: &PlaneRef<'_, T>, target: &mut Plane<T>)
     turn_plane(source, target, Turn::Rotate90);
 }
 
-/// Shows in `target` what `source` shows turned by 270 degrees clockwise, which is 90 degrees counterclockwise: its columns
-/// become the rows, from the right, as `np.rot90` does.
+/// Writes `source` rotated by 270 degrees clockwise, that is 90 degrees counterclockwise, into `target`, as with `np.rot90`.
+/// The padding of `target` stays unchanged.
 ///
-/// The width of the target is the height of the source, and its height the width.
+/// The width of `target` equals the height of `source`, and its height equals the width of `source`.
 pub fn rotate_270<T: Pixel>(source: &PlaneRef<'_, T>, target: &mut Plane<T>)
     requires wide { source.now.geometry.height ≡ target.old.geometry.width }
     requires high { source.now.geometry.width ≡ target.old.geometry.height }

@@ -1,8 +1,9 @@
-//! The same over rows that are kept elsewhere, each a stride after the one before, as decoders lay pictures out.
+//! The rotations, flips and transpositions for pixels that are kept outside a [`Plane`](v_frame::plane::Plane), for example in
+//! the buffer of a decoder.
 //!
-//! What is read is a [`RowsRef`](v_frame::plane::RowsRef). What is written is a buffer beside its width, height and stride in
-//! pixels, for which [`rows_fit`](v_frame::plane::rows_fit) holds; all of the buffer but these rows stays as it was. The
-//! calls of planes are made of these.
+//! An input is a [`RowsRef`](v_frame::plane::RowsRef). An output is a `buffer` with its `width`, `height` and `stride`, all
+//! counted in pixels: row `y` begins at entry `stride * y`. [`rows_fit`](v_frame::plane::rows_fit) must hold for an output. All
+//! entries of the buffer outside these rows stay unchanged. The operations on planes call these functions.
 
 mod flip;
 mod flip_in_place;

@@ -1,4 +1,4 @@
-//! The ways to turn a picture, as values.
+//! The rotations, flips and transpositions as values.
 ghost use Rattle.std.specs.Prelude.{◌≡◌};
 ghost use Rattle.v_frame.specs.Prelude.{table_of, KeepsBorder};
 ghost use Rattle.v_frame_turn.specs.Frames.{exchanges, turned, PlaneFits};
@@ -7,26 +7,27 @@ use crate::rows;
 use v_frame::pixel::Pixel;
 use v_frame::plane::{Plane, PlaneRef, VisibleMut};
 
-/// A way to turn a picture. With that of leaving it as it is, and transposing one that was turned by 180 degrees, these are the
-/// eight orientations of Exif.
+/// A rotation, a flip or a transposition. With the identity, and with a transposition that follows a rotation by 180 degrees,
+/// these are the eight orientations of Exif.
 #[derive(Debug, Clone, Copy, PartialEq, Eq)]
 pub enum Turn {
-    /// Upside down, as [`flip_vertical`](crate::flip_vertical).
+    /// Flips upside down, as [`flip_vertical`](crate::flip_vertical) does.
     FlipVertical,
-    /// Mirrored, as [`flip_horizontal`](crate::flip_horizontal).
+    /// Mirrors left to right, as [`flip_horizontal`](crate::flip_horizontal) does.
     FlipHorizontal,
-    /// By 180 degrees, as [`rotate_180`](crate::rotate_180).
+    /// Rotates by 180 degrees, as [`rotate_180`](crate::rotate_180) does.
     Rotate180,
-    /// Rows become columns, as [`transpose`](crate::transpose).
+    /// Exchanges rows and columns, as [`transpose`](crate::transpose) does.
     Transpose,
-    /// By 90 degrees clockwise, as [`rotate_90`](crate::rotate_90).
+    /// Rotates by 90 degrees clockwise, as [`rotate_90`](crate::rotate_90) does.
     Rotate90,
-    /// By 270 degrees clockwise, as [`rotate_270`](crate::rotate_270).
+    /// Rotates by 270 degrees clockwise, as [`rotate_270`](crate::rotate_270) does.
     Rotate270,
 }
 
 impl Turn {
-    /// Returns whether rows become columns, so that width and height are exchanged.
+    /// Returns whether rows become columns, so that the width and the height are exchanged. This is true for `Transpose`,
+    /// `Rotate90` and `Rotate270`.
     pub fn exchanges_sizes(self) -> bool
         ensures { result ≡ exchanges self }
     {
@@ -37,8 +38,8 @@ impl Turn {
     }
 }
 
-/// Shows in `target` what `source` shows, turned in one of these ways. The sizes of both are equal, or exchanged where
-/// [`exchanges_sizes`](Turn::exchanges_sizes) says so.
+/// Writes `source`, transformed by `turn`, into `target`. `target` has the size of `source`, with width and height exchanged if
+/// [`exchanges_sizes`](Turn::exchanges_sizes) returns true. The padding of `target` stays unchanged.
 pub fn turn_plane<T: Pixel>(source: &PlaneRef<'_, T>, target: &mut Plane<T>, turn: Turn)
     requires { PlaneFits (exchanges turn) source.now target.old }
     ensures table { table_of target.new ≡ turned turn (table_of source.now) }

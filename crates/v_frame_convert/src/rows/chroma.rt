@@ -1,15 +1,17 @@
-//! Rows in another size, as chroma has beside luma.
+//! Pictures enlarged by integer ratios, as chroma planes are when the chroma format changes.
 ghost use Rattle.std.specs.Prelude.{◌≡◌, ◌+◌, ◌-◌, ◌*◌, ◌/◌, ◌<◌, ◌≤◌, ℕ, length, slice_get};
 ghost use Rattle.v_frame.specs.Prelude.{height_of, pixel_at, strided_rows, width_of, KeepsRest, RowsFit};
 ghost use Rattle.v_frame_convert.specs.Chroma.{upscaled, IsSubsampledSize};
 
 use v_frame::plane::RowsRef;
 
-/// Makes the rows show what `source` shows, with each pixel `ratio_x` times across and `ratio_y` times down: the pixel of
-/// column `x` in row `y` is that of column `x / ratio_x` in row `y / ratio_y`.
+/// Enlarges `source` into the rows in `buffer` by repeating pixels (nearest neighbor): each source pixel is repeated `ratio_x`
+/// times in its row, and each row `ratio_y` times. The pixel at column `x` of row `y` is the source pixel at column
+/// `x / ratio_x` of row `y / ratio_y`.
 ///
-/// The source has a pixel for each block that is begun, as [`subsampled_size`](crate::subsampled_size) counts them: where the
-/// ratio doesn't divide a size, the last column or row is repeated fewer times. Ratios of 1, 2 and 4 are the fast ones.
+/// The size of `source` is the size of the rows divided by the ratios, rounded up, as
+/// [`subsampled_size`](crate::subsampled_size) computes it. If a ratio does not divide the size of the rows, the last column or
+/// row is repeated fewer times. Ratios of 1, 2 and 4 are the fastest.
 #[tactic(auto, using(v_frame_raster::proofs::tables::StridedWrites::row_ends))]
 pub fn upscale<T: Copy>(
     source: &RowsRef<'_, T>,
@@ -40,7 +42,7 @@ pub fn upscale<T: Copy>(
     }
 }
 
-/// Returns a quotient. A divisor that the compiler knows costs no division.
+/// Returns `number / divisor`. If the compiler knows the divisor, it replaces the division by cheaper instructions.
 #[inline(always)]
 fn quotient(number: usize, divisor: usize) -> usize
     requires { 0 < divisor }
@@ -54,7 +56,7 @@ fn quotient(number: usize, divisor: usize) -> usize
     }
 }
 
-/// Writes each pixel of one row `ratio` times into another.
+/// Writes each pixel of `source` `ratio` times into `row`.
 fn repeat_across<T: Copy>(source: &[T], row: &mut [T], ratio: usize)
     requires { IsSubsampledSize (length row.old) ratio (length source.now) }
     ensures { (k : ℕ) → k < length row.new
@@ -68,7 +70,7 @@ fn repeat_across<T: Copy>(source: &[T], row: &mut [T], ratio: usize)
     }
 }
 
-/// The same for any ratio.
+/// Writes each pixel of `source` `ratio` times into `row`, for any ratio.
 fn repeat_pixels<T: Copy>(source: &[T], row: &mut [T], ratio: usize)
     requires { IsSubsampledSize (length row.old) ratio (length source.now) }
     ensures { (k : ℕ) → k < length row.new
@@ -79,7 +81,7 @@ fn repeat_pixels<T: Copy>(source: &[T], row: &mut [T], ratio: usize)
     }
 }
 
-/// Writes each pixel of one row twice into another.
+/// Writes each pixel of `source` twice into `row`.
 fn repeat_twice<T: Copy>(source: &[T], row: &mut [T])
     requires { length source.now ≡ (length row.old + 1) / 2 }
     ensures { (k : ℕ) → k < length row.new
@@ -94,7 +96,7 @@ fn repeat_twice<T: Copy>(source: &[T], row: &mut [T])
     }
 }
 
-/// The same of a row that is twice as long.
+/// Writes each pixel of `source` twice into `row`, which is exactly twice as long.
 fn write_twice<T: Copy>(source: &[T], row: &mut [T])
     requires { length row.old ≡ 2 * length source.now }
     ensures { (k : ℕ) → k < length row.new
@@ -107,7 +109,7 @@ fn write_twice<T: Copy>(source: &[T], row: &mut [T])
     }
 }
 
-/// Writes each pixel of one row four times into another.
+/// Writes each pixel of `source` four times into `row`.
 fn repeat_four_times<T: Copy>(source: &[T], row: &mut [T])
     requires { length source.now ≡ (length row.old + 3) / 4 }
     ensures { (k : ℕ) → k < length row.new
@@ -121,7 +123,7 @@ fn repeat_four_times<T: Copy>(source: &[T], row: &mut [T])
         row[4 * i + 2] = pixel;
         row[4 * i + 3] = pixel;
     }
-    // The last columns of a width that doesn't divide by four.
+    // The last columns of a width that is not divisible by four.
     for x in 4 * groups..row.len() {
         row[x] = source[groups];
     }

@@ -1,4 +1,4 @@
-//! Rows in another bit depth.
+//! Pictures converted to another bit depth.
 ghost use Rattle.std.specs.Prelude.{◌≡◌, ◌^◌, ◌≤◌, length};
 ghost use Rattle.v_frame.specs.Prelude.{height_of, strided_rows, width_of, KeepsRest, RowsFit};
 ghost use Rattle.v_frame_convert.specs.Convert.{converted};
@@ -9,12 +9,14 @@ use crate::depth_change::DepthChange;
 use v_frame::pixel::Pixel;
 use v_frame::plane::RowsRef;
 
-/// Makes the rows show what `source` shows, with its values of bit depth `from` in bit depth `to`.
+/// Converts the values of `source` from bit depth `from` to bit depth `to` and writes them into the rows in `buffer`. `source`
+/// has the same size as the rows.
 ///
-/// To a greater depth a value is shifted, so 255 of 8 bits becomes 1020 of 10. To a smaller depth it is rounded to the nearest
-/// value, upwards at a half, and at most to the largest one. A value above the largest of depth `from` counts as that one.
+/// To a greater depth a value is shifted left, `value << (to - from)`: for example, 255 of 8 bits becomes 1020 of 10 bits. To a
+/// smaller depth it is rounded to the nearest integer, halves up, and clipped to `2^to - 1`. A value above `2^from - 1` is
+/// first replaced by `2^from - 1`.
 ///
-/// Each depth has to fit its type of pixels: ask [`depth_fits`](crate::depth_fits).
+/// Each depth must fit its type of pixels, as [`depth_fits`](crate::depth_fits) tests.
 pub fn convert_depth<S: Pixel, T: Pixel>(
     source: &RowsRef<'_, S>,
     buffer: &mut [T],
@@ -41,7 +43,7 @@ pub fn convert_depth<S: Pixel, T: Pixel>(
     }
 }
 
-/// Returns the depth. Of bytes it is a constant, which saves a comparison at each pixel.
+/// Returns `from`, as a constant for bytes. This saves a comparison for each pixel.
 #[inline(always)]
 fn source_depth<S: Pixel>(from: u8) -> u8
     requires { DepthFits S.BYTES from }
@@ -50,7 +52,7 @@ fn source_depth<S: Pixel>(from: u8) -> u8
     if S::BYTES == 1 { 8 } else { from }
 }
 
-/// The same to no smaller depth.
+/// Converts to a depth that is not smaller.
 fn raise_rows<S: Pixel, T: Pixel>(
     source: &RowsRef<'_, S>,
     buffer: &mut [T],
@@ -83,7 +85,7 @@ fn raise_rows<S: Pixel, T: Pixel>(
     );
 }
 
-/// The same to any depth.
+/// Converts to any depth.
 fn change_rows<S: Pixel, T: Pixel>(
     source: &RowsRef<'_, S>,
     buffer: &mut [T],

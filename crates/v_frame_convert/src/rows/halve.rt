@@ -1,4 +1,4 @@
-//! Rows in half the size, whatever their sizes are.
+//! Pictures in half their size, with odd sizes rounded up.
 ghost use Rattle.std.specs.Prelude.{◌≡◌, ◌+◌, ◌*◌, ◌/◌, ◌^◌, ◌<◌, ◌≤◌, ℕ, Some, length, slice_get};
 ghost use Rattle.v_frame.specs.Prelude.{height_of, strided_rows, width_of, KeepsRest, RowsFit};
 ghost use Rattle.v_frame_convert.specs.Scale.{nearest_value, scaled, SizesFit};
@@ -9,11 +9,12 @@ use crate::byte_pairs::{halve_blocks, pairs_in_blocks};
 use v_frame::pixel::Pixel;
 use v_frame::plane::RowsRef;
 
-/// Makes the rows show what `source` shows, in half the size, rounded up: each pixel is the mean of a block of two by two,
-/// rounded to the nearest value and upwards at a half. At an odd width the last column counts twice, and at an odd height the
-/// last row.
+/// Halves the width and the height of `source` into the rows in `buffer`, with odd sizes rounded up. Each pixel is the mean of
+/// a block of 2 by 2 source pixels, rounded to the nearest integer, halves up. If the width is odd, the last column counts
+/// twice, and if the height is odd, the last row counts twice.
 ///
-/// It is [`resample`](super::resample) by two halves at one depth, and faster.
+/// If all samples fit the bit depth, [`resample`](super::resample) with `Half` in both directions and no change of depth writes
+/// the same pixels, but is slower.
 #[tactic(auto, using(v_frame_raster::proofs::tables::StridedWrites::row_ends))]
 pub fn downscale_to_edge<T: Pixel>(
     source: &RowsRef<'_, T>,
@@ -38,10 +39,12 @@ pub fn downscale_to_edge<T: Pixel>(
     }
 }
 
-/// Makes the rows show what `source` shows, with half as many columns, rounded up: each pixel is the mean of two, rounded
-/// upwards at a half. At an odd width the last column is by itself.
+/// Halves the width of `source` into the rows in `buffer`, with an odd width rounded up. Each pixel is the mean of two adjacent
+/// source pixels, rounded to the nearest integer, halves up. If the width is odd, the last column is copied. The height stays
+/// the same.
 ///
-/// It is [`resample`](super::resample) by a half of the columns at one depth, and faster.
+/// If all samples fit the bit depth, [`resample`](super::resample) with `Half` across, `Same` down and no change of depth
+/// writes the same pixels, but is slower.
 #[tactic(auto, using(v_frame_raster::proofs::tables::StridedWrites::row_ends))]
 pub fn halve_columns<T: Pixel>(
     source: &RowsRef<'_, T>,
@@ -63,7 +66,7 @@ pub fn halve_columns<T: Pixel>(
     }
 }
 
-/// Halves two rows of one length into one, rounded up.
+/// Halves two rows of the same length into one row, with an odd length rounded up.
 fn halve_to_edge<T: Pixel>(top: &[T], bottom: &[T], row: &mut [T])
     requires top { length row.old ≡ (length top.now + 1) / 2 }
     requires bottom { length bottom.now ≡ length top.now }
@@ -80,7 +83,7 @@ fn halve_to_edge<T: Pixel>(top: &[T], bottom: &[T], row: &mut [T])
     }
 }
 
-/// Halves the columns of a row, rounded up: those of bytes in blocks.
+/// Halves the width of one row, with an odd width rounded up. Rows of bytes are halved in blocks.
 fn halve_row_to_edge<T: Pixel>(source: &[T], row: &mut [T])
     requires { length row.old ≡ (length source.now + 1) / 2 }
     ensures { (x : ℕ) → x < length row.new → slice_get row.new x
@@ -93,7 +96,7 @@ fn halve_row_to_edge<T: Pixel>(source: &[T], row: &mut [T])
     halve_pairs(rest, back);
 }
 
-/// The same, pair by pair.
+/// Halves the width of one row, pair by pair.
 fn halve_pairs<T: Pixel>(source: &[T], row: &mut [T])
     requires { length row.old ≡ (length source.now + 1) / 2 }
     ensures { (x : ℕ) → x < length row.new → slice_get row.new x
@@ -103,13 +106,13 @@ fn halve_pairs<T: Pixel>(source: &[T], row: &mut [T])
     for x in 0..pairs {
         row[x] = mean_of_two(source[2 * x], source[2 * x + 1]);
     }
-    // The last column of an odd width is by itself.
+    // The last column of an odd width has no second pixel.
     for x in pairs..row.len() {
         row[x] = mean_of_two(source[2 * x], source[2 * x]);
     }
 }
 
-/// Returns the mean of two pixels, rounded upwards at a half.
+/// Returns the mean of two pixels, rounded to the nearest integer, halves up.
 fn mean_of_two<T: Pixel>(a: T, b: T) -> T
     ensures { result ≡ T.form.pixel_of ((T.form.value a + T.form.value b + 1) / 2) }
 {

@@ -1,4 +1,4 @@
-//! Rows whose pixels are made of those of another picture, which may have pixels of another type.
+//! Pictures computed pixel by pixel from another picture, which may have another type of pixels.
 ghost use Rattle.std.specs.Prelude.{◌≡◌, ◌+◌, ◌*◌, ◌<◌, ℕ, List, length};
 ghost use Rattle.v_frame.specs.Prelude.{height_of, strided_rows, width_of, KeepsRest, RowsFit};
 ghost use Rattle.v_frame_convert.specs.Convert.{converted, GivesPixels};
@@ -7,10 +7,10 @@ ghost use Rattle.v_frame_convert.specs.Rows.{GivesItems};
 use v_frame::pixel::Pixel;
 use v_frame::plane::RowsRef;
 
-/// Makes each pixel of the rows a result of `change` at the pixel of the same column and row of `source`, which has the same
-/// size.
+/// Sets each pixel of the rows in `buffer` to the result of `change` for the pixel of `source` in the same column and row.
+/// `source` has the same size as the rows, and the types of pixels may differ.
 ///
-/// `change` has to accept any pixel.
+/// `change` must accept every pixel of its type.
 pub fn map_into<S: Pixel, T: Pixel, F: Fn(S) -> T>(
     source: &RowsRef<'_, S>,
     buffer: &mut [T],
@@ -32,7 +32,7 @@ pub fn map_into<S: Pixel, T: Pixel, F: Fn(S) -> T>(
     map_rows(source, buffer, width, height, stride, &change);
 }
 
-/// Makes each row one of results of `change`.
+/// Sets each pixel of the rows to the result of `change` for the pixel of `source` at the same position, row by row.
 #[tactic(auto, using(v_frame_raster::proofs::tables::StridedWrites::row_ends))]
 fn map_rows<S: Copy, T: Copy, F: Fn(S) -> T>(
     source: &RowsRef<'_, S>,
@@ -60,7 +60,7 @@ fn map_rows<S: Copy, T: Copy, F: Fn(S) -> T>(
     }
 }
 
-/// Makes each pixel of a row a result of `change` at the pixel of the same index in the other row.
+/// Sets each pixel of `row` to the result of `change` for the pixel of `source` at the same index.
 fn map_row<S: Copy, T: Copy, F: Fn(S) -> T>(source: &[S], row: &mut [T], change: &F)
     requires callable { F.IsAlwaysCallable change.now }
     requires wide { length source.now ≡ length row.old }

@@ -1,4 +1,4 @@
-//! Rows in another size, and in another bit depth with it.
+//! Pictures converted to the size of another chroma format, and to another bit depth in the same step.
 ghost use Rattle.std.specs.Prelude.{◌≡◌, ◌≢◌, ◌+◌, ◌*◌, ◌^◌, ◌<◌, ◌≤◌, ℕ, length};
 ghost use Rattle.v_frame.specs.Prelude.{height_of, strided_rows, width_of, KeepsRest, RowsFit};
 ghost use Rattle.v_frame_convert.specs.Depth.{pixel_of_depth, DepthFits};
@@ -12,15 +12,18 @@ use crate::scale::Scale;
 use v_frame::pixel::Pixel;
 use v_frame::plane::RowsRef;
 
-/// Makes the rows show what `source` shows, in another size and another bit depth.
+/// Converts `source` to another size and another bit depth and writes it into the rows in `buffer`. Chroma planes change from
+/// one format to another in this way: for example, from 4:4:4 to 4:2:0 with `Half` in both directions.
 ///
-/// `across` says how many columns the target has beside the source, and `down` how many rows, which may not be
-/// [`Quarter`](Scale::Quarter). Where it has fewer, a pixel is the mean of its block, rounded to the nearest value and upwards at a
-/// half; past an edge the last column or row is repeated. Where it has more, pixels are repeated. So chroma changes from one format
-/// to another, as from 4:4:4 to 4:2:0 by two halves, and lies at the center of the luma that it is of, as in JPEG and MPEG-1. The
-/// value then becomes one of depth `to`, as in [`convert_depth`](super::convert_depth).
+/// `across` relates the width of the rows to the width of `source`, and `down` relates the heights. `down` must not be
+/// [`Quarter`](Scale::Quarter). If the target is smaller, each pixel is the mean of the block that it covers (box filter),
+/// rounded to the nearest integer, halves up. At the right and lower edge the last column or row is repeated to fill a block.
+/// If the target is larger, pixels are repeated (nearest neighbor). Chroma samples are therefore sited at the center of the
+/// luma samples that they cover, as in JPEG and MPEG-1. The value is then converted from depth `from` to depth `to`, as in
+/// [`convert_depth`](super::convert_depth).
 ///
-/// Ask [`sizes_fit`](crate::sizes_fit) and [`depth_fits`](crate::depth_fits).
+/// The sizes must correspond, as [`sizes_fit`](crate::sizes_fit) tests, and each depth must fit its type of pixels, as
+/// [`depth_fits`](crate::depth_fits) tests.
 pub fn resample<S: Pixel, T: Pixel>(
     source: &RowsRef<'_, S>,
     buffer: &mut [T],
@@ -46,8 +49,8 @@ pub fn resample<S: Pixel, T: Pixel>(
     scale_rows(source, buffer, width, height, stride, across, down, &change);
 }
 
-/// Makes the rows show what `source` shows, in another size and another bit depth: each pixel is made of the mean of the block
-/// that it covers, or of the pixel in whose block it lies.
+/// Converts `source` to another size and another bit depth, row by row. Each pixel is the mean of the block that it covers, or
+/// the pixel in whose block it lies.
 #[tactic(auto, using(v_frame_raster::proofs::tables::StridedWrites::row_ends))]
 fn scale_rows<S: Pixel, T: Pixel>(
     source: &RowsRef<'_, S>,
@@ -83,7 +86,8 @@ fn scale_rows<S: Pixel, T: Pixel>(
     }
 }
 
-/// Returns which two rows of so many are at row `y` of another height. They are one where rows are not made fewer.
+/// Returns the two rows of the source, which has `lines` rows, whose mean is row `y` of the target. They are the same row
+/// unless the number of rows is halved.
 fn lines_at(down: Scale, y: usize, lines: usize, height: usize) -> (usize, usize)
     requires sizes { SizesFit down lines height }
     requires high { y < height }

@@ -1,4 +1,4 @@
-//! One row of another width, made of two rows whose means it has.
+//! One row of another width, computed from two source rows.
 ghost use Rattle.std.specs.Prelude.{◌≡◌, ◌+◌, ◌*◌, ◌/◌, ◌^◌, ◌<◌, ◌≤◌, ℕ, [], ◌∷◌, ◌++◌, Some, length, slice_get};
 ghost use Rattle.v_frame_convert.specs.Depth.{at_depth};
 ghost use Rattle.v_frame_convert.specs.Scale.{mean_of, nearest_value, values_at, SizesFit};
@@ -9,7 +9,7 @@ use crate::depth_change::DepthChange;
 use crate::scale::Scale;
 use v_frame::pixel::Pixel;
 
-/// Returns the value of column `x`.
+/// Returns the value of the pixel at column `x`.
 #[inline(always)]
 fn value_at<S: Pixel>(row: &[S], x: usize) -> u32
     requires { x < length row.now }
@@ -19,7 +19,7 @@ fn value_at<S: Pixel>(row: &[S], x: usize) -> u32
     u32::from(row[x].into_u16())
 }
 
-/// Returns the value of the column that is so many after column `x`, or past the last column of the last one.
+/// Returns the value of the pixel at column `x + after`, or of the last pixel if the row ends before that column.
 fn value_near<S: Pixel>(row: &[S], x: usize, after: usize) -> u32
     requires { x < length row.now }
     ensures value { result ≡ nearest_value S.form row.now (x + after) }
@@ -29,7 +29,7 @@ fn value_near<S: Pixel>(row: &[S], x: usize, after: usize) -> u32
     value_at(row, x + after.min(left))
 }
 
-/// Returns the pixel of a value at another depth.
+/// Returns the pixel of `value` at the other depth.
 #[inline(always)]
 fn changed<T: Pixel>(value: u32, change: &DepthChange) -> T
     requires value { value < 65536 }
@@ -39,7 +39,7 @@ fn changed<T: Pixel>(value: u32, change: &DepthChange) -> T
     T::from_value(change.apply(value as u16))
 }
 
-/// Returns the mean of column `x` of two rows, at another depth.
+/// Returns the mean of the pixels at column `x` of two rows, at the other depth.
 #[inline(always)]
 fn mean_at<S: Pixel, T: Pixel>(top: &[S], bottom: &[S], x: usize, change: &DepthChange) -> T
     requires top { x < length top.now }
@@ -51,7 +51,7 @@ fn mean_at<S: Pixel, T: Pixel>(top: &[S], bottom: &[S], x: usize, change: &Depth
     changed((value_at(top, x) + value_at(bottom, x) + 1) / 2, change)
 }
 
-/// Returns the mean of four columns of two rows, from column `x` on, at another depth.
+/// Returns the mean of four columns of two rows, from column `x` on, at the other depth.
 #[inline(always)]
 fn mean_of_four<S: Pixel, T: Pixel>(top: &[S], bottom: &[S], x: usize, change: &DepthChange) -> T
     requires top { x + 3 < length top.now }
@@ -64,7 +64,8 @@ fn mean_of_four<S: Pixel, T: Pixel>(top: &[S], bottom: &[S], x: usize, change: &
     changed((four_at(top, x) + four_at(bottom, x) + 4) / 8, change)
 }
 
-/// The same, where past the last column the last one counts.
+/// Returns the mean of four columns of two rows, from column `x` on, at the other depth. Columns past the end of the rows count
+/// as the last column.
 fn mean_of_last_four<S: Pixel, T: Pixel>(
     top: &[S],
     bottom: &[S],
@@ -94,7 +95,7 @@ fn mean_row<S: Pixel, T: Pixel>(top: &[S], bottom: &[S], row: &mut [T], change: 
     }
 }
 
-/// Writes the mean of each two columns of two rows.
+/// Writes the mean of each pair of columns of two rows.
 fn half_row<S: Pixel, T: Pixel>(top: &[S], bottom: &[S], row: &mut [T], change: &DepthChange)
     requires top { SizesFit Half (length top.now) (length row.old) }
     requires bottom { length bottom.now ≡ length top.now }
@@ -108,7 +109,7 @@ fn half_row<S: Pixel, T: Pixel>(top: &[S], bottom: &[S], row: &mut [T], change: 
         let lower = value_at(bottom, 2 * x) + value_at(bottom, 2 * x + 1);
         row[x] = changed((upper + lower + 2) / 4, change);
     }
-    // The last column of an odd width is by itself.
+    // The last column of an odd width has no second pixel.
     for x in pairs..row.len() {
         let upper = value_at(top, 2 * x) + value_near(top, 2 * x, 1);
         let lower = value_at(bottom, 2 * x) + value_near(bottom, 2 * x, 1);
@@ -116,7 +117,7 @@ fn half_row<S: Pixel, T: Pixel>(top: &[S], bottom: &[S], row: &mut [T], change: 
     }
 }
 
-/// Writes the mean of each four columns of two rows.
+/// Writes the mean of each group of four columns of two rows.
 fn quarter_row<S: Pixel, T: Pixel>(top: &[S], bottom: &[S], row: &mut [T], change: &DepthChange)
     requires top { SizesFit Quarter (length top.now) (length row.old) }
     requires bottom { length bottom.now ≡ length top.now }
@@ -128,13 +129,13 @@ fn quarter_row<S: Pixel, T: Pixel>(top: &[S], bottom: &[S], row: &mut [T], chang
     for x in 0..groups {
         row[x] = mean_of_four(top, bottom, 4 * x, change);
     }
-    // The last columns of a width that doesn't divide by four.
+    // The last columns of a width that is not divisible by four.
     for x in groups..row.len() {
         row[x] = mean_of_last_four(top, bottom, 4 * x, change);
     }
 }
 
-/// Returns the sum of the values of four columns.
+/// Returns the sum of the values of four columns, from column `x` on.
 #[inline(always)]
 fn four_at<S: Pixel>(row: &[S], x: usize) -> u32
     requires { x + 3 < length row.now }
@@ -145,7 +146,7 @@ fn four_at<S: Pixel>(row: &[S], x: usize) -> u32
     value_at(row, x) + value_at(row, x + 1) + value_at(row, x + 2) + value_at(row, x + 3)
 }
 
-/// The same, where past the last column the last one counts.
+/// Returns the sum of the values of four columns, from column `x` on. Columns past the end of the row count as the last column.
 fn four_near<S: Pixel>(row: &[S], x: usize) -> u32
     requires { x < length row.now }
     ensures value { let at = nearest_value S.form row.now in
@@ -191,13 +192,13 @@ fn quadruple_row<S: Pixel, T: Pixel>(top: &[S], bottom: &[S], row: &mut [T], cha
         row[4 * i + 2] = pixel;
         row[4 * i + 3] = pixel;
     }
-    // The last columns of a width that doesn't divide by four.
+    // The last columns of a width that is not divisible by four.
     for x in 4 * groups..row.len() {
         row[x] = mean_at(top, bottom, groups, change);
     }
 }
 
-/// Writes a row of another width, made of two rows.
+/// Writes a row of another width, computed from two source rows.
 pub(crate) fn scale_row<S: Pixel, T: Pixel>(
     top: &[S],
     bottom: &[S],

@@ -1,4 +1,4 @@
-//! Sums over blocks of four columns and four rows, of values below 8192, and over the windows of two by two of them.
+//! Sums over blocks of 4 by 4 pixels with values below 8192, and over windows of 2 by 2 blocks.
 ghost use Rattle.std.specs.Prelude.{◌≡◌, ◌+◌, ◌*◌, ◌≤◌, ◌<◌, ◌^◌, ℕ, slice_index};
 ghost use Rattle.std.specs.List.{fold};
 ghost use Rattle.std.specs.Float.Ieee.{add};
@@ -15,21 +15,21 @@ use crate::similarity::window::{SsimConstants, similarity};
 use v_frame::pixel::Pixel;
 use v_frame::plane::RowsRef;
 
-/// Sums over up to 128 blocks beside each other, each of four columns and four rows of two pictures.
+/// Sums over up to 128 adjacent blocks of 4 by 4 pixels of two pictures. The blocks have the same rows.
 #[derive(Clone, Copy)]
 pub struct BlockSums {
     /// The sums of the values of the first picture.
     pub first: [u32; 128],
     /// The sums of the values of the second picture.
     pub second: [u32; 128],
-    /// The sums of the squares of the values of both.
+    /// The sums of the squared values of both pictures.
     pub squares: [u32; 128],
-    /// The sums of the products of the two values at a place.
+    /// The sums of the products of two values at the same position.
     pub products: [u32; 128],
 }
 
 impl BlockSums {
-    /// Returns those to begin with.
+    /// Returns sums that are all zero.
     pub(crate) fn none() -> Self {
         BlockSums {
             first: [0; 128],
@@ -39,7 +39,7 @@ impl BlockSums {
         }
     }
 
-    /// Makes the first ones the sums over so many blocks, at least eight, from column `x` of row `y` on.
+    /// Sets the first `count` entries, at least eight, to the sums over the blocks from column `x` of row `y` on.
     pub(crate) fn sum_rows<T: Pixel>(
         &mut self,
         a: &RowsRef<'_, T>,
@@ -58,19 +58,19 @@ impl BlockSums {
         requires second { HasNarrowValues T.form.value b.now }
         ensures { AreBlockSums T.form.value x y a.now b.now count self.new }
     {
-        // What the clauses of these calls say is the proof.
+        // These calls are needed only for their contracts, which the proof uses.
         let _width = a.width();
         let _other = b.width();
         let mut columns = ColumnSums::none();
         for eight in 0..(count + 7) / 8 {
-            // The last eight end where all do.
+            // The last group of eight ends with the last block, so it may overlap the group before it.
             let k = (8 * eight).min(count - 8);
             columns.sum_rows(a, b, x + 4 * k, y);
             self.put(k, &columns);
         }
     }
 
-    /// Makes eight of them, from block `k` on, those of these columns.
+    /// Sets the eight entries from block `k` on to the sums of these columns, four columns for each block.
     #[inline(always)]
     fn put(&mut self, k: usize, columns: &ColumnSums)
         requires inside { k + 8 ≤ 128 }
@@ -84,7 +84,7 @@ impl BlockSums {
         put_sums_of_fours(&mut self.products, k, &columns.products);
     }
 
-    /// Returns a sum with the similarities of so many windows, added one after the other.
+    /// Adds the similarities of the first `windows` windows to `sum`, one after the other, and returns the result.
     pub(crate) fn add_windows<F: LineSum>(
         &self,
         below: &BlockSums,
@@ -120,7 +120,8 @@ impl BlockSums {
         }
     }
 
-    /// Returns a sum with the similarities of so many windows of bytes, at least eight, added one after the other.
+    /// Adds the similarities of the first `windows` windows to `sum`, one after the other, and returns the result. The values
+    /// are bytes, and there are at least eight windows.
     pub(crate) fn add_windows_of_bytes<F: LineSum>(
         &self,
         below: &BlockSums,
@@ -138,7 +139,7 @@ impl BlockSums {
     {
         let mut sum = sum;
         for eight in 0..(windows + 7) / 8 {
-            // The last eight end where all do.
+            // The last group of eight ends with the last window, so it may overlap the group before it.
             let k = (8 * eight).min(windows - 8);
             let found = self.eight_of_bytes(below, constants, k);
             for i in 8 * eight - k..8 {
@@ -148,7 +149,7 @@ impl BlockSums {
         sum
     }
 
-    /// Returns the similarities of eight windows of bytes, from window `k` on.
+    /// Returns the similarities of the eight windows from window `k` on. The values are bytes.
     #[inline(always)]
     fn eight_of_bytes(&self, below: &BlockSums, constants: &SsimConstants, k: usize) -> [f32; 8]
         requires inside { k + 8 < 128 }
@@ -168,7 +169,7 @@ impl BlockSums {
     }
 }
 
-/// Returns the sum of two numbers beside each other, and of the two below.
+/// Returns the sum over window `k`: two adjacent entries of `above` and the two entries of `below` at the same indexes.
 #[inline(always)]
 fn sum_of_window(above: &[u32; 128], below: &[u32; 128], k: usize) -> u64
     requires { k + 1 < 128 }

@@ -1,4 +1,4 @@
-//! Sums over columns of four rows, of values below 8192: for each 32 bits suffice, and the compiler makes packed code.
+//! Sums over columns of four pixels with values below 8192. These sums fit 32 bits, so the compiler vectorizes the loops.
 ghost use Rattle.std.specs.Prelude.{◌≡◌, ◌+◌, ◌*◌, ◌≤◌, ◌<◌, ◌^◌, ℕ, [], ◌∷◌, drop, slice_index, take};
 ghost use Rattle.v_frame.specs.Prelude.{height_of, width_of};
 ghost use Rattle.v_frame_measures.specs.ColumnSums.{AreColumnSums, AreSmall, HasNarrowValues, IsNarrowPart, four_of};
@@ -6,21 +6,21 @@ ghost use Rattle.v_frame_measures.specs.ColumnSums.{AreColumnSums, AreSmall, Has
 use v_frame::pixel::Pixel;
 use v_frame::plane::RowsRef;
 
-/// Sums over 32 columns beside each other, each of four rows of two pictures.
+/// Sums over 32 adjacent columns of two pictures, each column in the same four rows.
 #[derive(Drop)]
 pub struct ColumnSums {
     /// The sums of the values of the first picture.
     pub first: [u32; 32],
     /// The sums of the values of the second picture.
     pub second: [u32; 32],
-    /// The sums of the squares of the values of both.
+    /// The sums of the squared values of both pictures.
     pub squares: [u32; 32],
-    /// The sums of the products of the two values at a place.
+    /// The sums of the products of two values at the same position.
     pub products: [u32; 32],
 }
 
 impl ColumnSums {
-    /// Returns those to begin with.
+    /// Returns sums that are all zero.
     #[inline(always)]
     pub(crate) fn none() -> Self {
         ColumnSums {
@@ -31,7 +31,7 @@ impl ColumnSums {
         }
     }
 
-    /// Makes these the sums from column `x` of row `y` on.
+    /// Sets all entries to the sums over the columns from column `x` on, in the four rows from row `y` on.
     #[inline(always)]
     pub(crate) fn sum_rows<T: Pixel>(
         &mut self,
@@ -49,7 +49,7 @@ impl ColumnSums {
         ensures value { AreColumnSums T.form.value x (take 4 (drop y a.now)) (take 4 (drop y b.now)) self.new }
         ensures small { AreSmall self.new }
     {
-        // What the clause of this call says is the proof.
+        // This call is needed only for its contract, which the proof uses.
         let _height = a.height();
         let (p0, p1) = (a.visible_row(y), a.visible_row(y + 1));
         let (p2, p3) = (a.visible_row(y + 2), a.visible_row(y + 3));
@@ -67,7 +67,8 @@ impl ColumnSums {
         );
     }
 
-    /// Makes these the sums over parts of four rows of each picture.
+    /// Sets all entries to the sums over the columns of four rows of each picture: `p0` to `p3` of the first and `q0` to `q3`
+    /// of the second.
     #[inline(always)]
     fn sum_parts<T: Pixel>(
         &mut self,
@@ -113,7 +114,7 @@ impl ColumnSums {
     }
 }
 
-/// Makes eight numbers, from index `k` on, the sums of four that stand beside each other.
+/// Sets the eight entries of `sums` from index `k` on to sums of four adjacent entries of `numbers`.
 #[inline(always)]
 pub(crate) fn put_sums_of_fours(sums: &mut [u32; 128], k: usize, numbers: &[u32; 32])
     requires inside { k + 8 ≤ 128 }
@@ -154,7 +155,7 @@ fn sum_of_four(a: u32, b: u32, c: u32, d: u32) -> u32
     a + b + c + d
 }
 
-/// Returns the sum of the squares of two values.
+/// Returns the sum of the squared values of two pixels.
 #[inline(always)]
 fn squares_of<T: Pixel>(p: T, q: T) -> u32
     requires first { T.form.value p < 8192 }
@@ -165,7 +166,7 @@ fn squares_of<T: Pixel>(p: T, q: T) -> u32
     product_of(p, p) + product_of(q, q)
 }
 
-/// Returns the product of two values.
+/// Returns the product of the values of two pixels.
 #[inline(always)]
 fn product_of<T: Pixel>(p: T, q: T) -> u32
     requires first { T.form.value p < 8192 }
@@ -176,7 +177,7 @@ fn product_of<T: Pixel>(p: T, q: T) -> u32
     narrow_value(p) * narrow_value(q)
 }
 
-/// Returns a value below 8192. The mask tells the compiler how small it is.
+/// Returns the value of a pixel, which is below 8192. The mask shows this limit to the compiler.
 #[inline(always)]
 fn narrow_value<T: Pixel>(pixel: T) -> u32
     requires { T.form.value pixel < 8192 }

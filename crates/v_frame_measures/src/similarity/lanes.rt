@@ -1,4 +1,4 @@
-//! Eight windows of bytes at once, in lanes of 32 bits.
+//! The similarities of eight windows of bytes at once, in vectors of 32-bit lanes.
 ghost use Rattle.std.specs.Prelude.{◌≡◌, ◌+◌, ◌≤◌, ◌<◌, ◌^◌, ◌-ℤ◌, ℕ, List, map, pos, slice_index};
 ghost use Rattle.std.specs.List.{range_with_len};
 ghost use Rattle.std.specs.Simd.Lanes.{Each1, zip2};
@@ -10,7 +10,8 @@ ghost use Rattle.v_frame_measures.specs.declared.similarity.sums.PixelSums.{Pixe
 use crate::similarity::window::SsimConstants;
 use std::simd::{f32x8, u32x8};
 
-/// Returns the sums of two numbers beside each other and the two below, for eight places from `k` on.
+/// Returns the sums over eight windows from index `k` on. Each is the sum of two adjacent entries of `above` and the two
+/// entries of `below` at the same indexes.
 #[inline(always)]
 pub(crate) fn sums_of_windows(above: &[u32; 128], below: &[u32; 128], k: usize) -> u32x8
     requires inside { k + 8 < 128 }
@@ -22,7 +23,7 @@ pub(crate) fn sums_of_windows(above: &[u32; 128], below: &[u32; 128], k: usize) 
     left + right
 }
 
-/// Returns the similarities of eight windows of bytes that have these sums.
+/// Returns the similarities of eight windows of bytes from the sums over these windows.
 #[inline(always)]
 pub(crate) fn similarities_of_bytes(
     constants: &SsimConstants,
@@ -40,7 +41,7 @@ pub(crate) fn similarities_of_bytes(
         → products ≡ map (λ (w : PixelSums). w.products) windows
         → result ≡ map (similarity_of constants.now) windows }
 {
-    // The mask tells the compiler how small they are.
+    // The mask shows the compiler that the sums fit 15 bits.
     let (a, b) = (first & u32x8::splat(0x7fff), second & u32x8::splat(0x7fff));
     let of_means = u32x8::splat(constants.means as u32);
     let of_variances = u32x8::splat(constants.variances as u32);
@@ -53,7 +54,8 @@ pub(crate) fn similarities_of_bytes(
     means * covariance / (mean_squares * variances)
 }
 
-/// Returns the `f32` nearest to each number, by exact halves of which the sum rounds once.
+/// Returns the `f32` nearest to each number. A number is split into two parts that convert exactly, and their sum is rounded
+/// once.
 #[inline(always)]
 fn nearest_f32s(numbers: u32x8) -> f32x8
     ensures { result ≡ map (λ n. of_int binary32 (pos n)) numbers }
@@ -62,7 +64,7 @@ fn nearest_f32s(numbers: u32x8) -> f32x8
     high + (numbers & u32x8::splat(0xffff)).cast::<f32>()
 }
 
-/// Returns the `f32` nearest to each difference of two numbers.
+/// Returns the `f32` nearest to each difference `numbers - less`, which may be negative.
 #[inline(always)]
 fn nearest_f32s_to_differences(numbers: u32x8, less: u32x8) -> f32x8
     ensures { result ≡ zip2 (λ a b. of_int binary32 (pos a -ℤ pos b)) numbers less }

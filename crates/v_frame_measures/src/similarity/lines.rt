@@ -1,4 +1,5 @@
-//! Some lines of windows at once, of narrow values: blocks are summed once, strip by strip.
+//! Several lines of windows at once, for values below 8192. Each block is summed once, and the lines are processed in vertical
+//! strips.
 ghost use Rattle.std.specs.Prelude.{◌≡◌, ◌+◌, ◌*◌, ◌-◌, ◌/◌, ◌≤◌, ◌<◌, ◌^◌, ℕ, get_or, length, max};
 ghost use Rattle.std.specs.List.{fold};
 ghost use Rattle.std.specs.Float.Ieee.{add};
@@ -14,7 +15,8 @@ use crate::similarity::window::SsimConstants;
 use v_frame::pixel::Pixel;
 use v_frame::plane::RowsRef;
 
-/// Makes the first ones the sums over so many lines of windows, at most 32, from line `y` on, of values up to this one.
+/// Sets the first `count` entries of `sums`, at most 32, to the sums over the lines of windows from line `y` on. All values are
+/// at most `most`.
 pub(crate) fn sums_of_lines<T: Pixel, F: LineSum>(
     a: &RowsRef<'_, T>,
     b: &RowsRef<'_, T>,
@@ -40,7 +42,7 @@ pub(crate) fn sums_of_lines<T: Pixel, F: LineSum>(
     ensures long { length sums.new ≡ 32 }
 {
     let across = a.width() / 4 - 1;
-    // What the clauses of these calls say is the proof.
+    // These calls are needed only for their contracts, which the proof uses.
     let _other = b.width();
     let _height = a.height();
     for k in 0..count {
@@ -61,7 +63,7 @@ pub(crate) fn sums_of_lines<T: Pixel, F: LineSum>(
     }
 }
 
-/// Returns how many windows a strip has: 63, and the last one all that are left.
+/// Returns the number of windows of a strip: 63, or for the last strip all windows that are left.
 fn windows_of_strip(across: usize, strip: usize, strips: usize) -> usize
     requires across { 8 ≤ across }
     requires strips { strips ≡ max (across / 63) 1 }
@@ -79,7 +81,7 @@ fn windows_of_strip(across: usize, strip: usize, strips: usize) -> usize
     }
 }
 
-/// Returns a line's sum with so many windows more.
+/// Returns the sum of a line with `windows` more windows.
 fn with_windows<F: LineSum>(
     sum: F,
     above: &BlockSums,

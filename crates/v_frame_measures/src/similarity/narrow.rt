@@ -1,11 +1,12 @@
-//! How large the values of a picture are at most.
+//! An upper bound for the values of a picture.
 ghost use Rattle.std.specs.Prelude.{◌≤◌};
 ghost use Rattle.v_frame_measures.specs.ColumnSums.{HasValuesUpTo, IsUpTo};
 
 use v_frame::pixel::Pixel;
 use v_frame::plane::RowsRef;
 
-/// Returns all bits that values of a picture have. Of bytes the compiler knows that they are below 256.
+/// Returns the bitwise OR of all values of a picture, which is an upper bound for each value. For bytes the compiler knows that
+/// the result is below 256.
 pub(crate) fn bits_of_rows<T: Pixel>(picture: &RowsRef<'_, T>) -> u16
     ensures { HasValuesUpTo T.form.value result picture.now }
 {
@@ -16,7 +17,7 @@ pub(crate) fn bits_of_rows<T: Pixel>(picture: &RowsRef<'_, T>) -> u16
     bits
 }
 
-/// Returns all bits that values of a row have.
+/// Returns the bitwise OR of all values of a row.
 fn bits_of_row<T: Pixel>(row: &[T]) -> u16
     ensures { IsUpTo T.form.value result row.now }
 {

@@ -1,4 +1,4 @@
-//! The similarity of two windows, of the sums over them.
+//! The similarity of two windows, computed from the sums over them.
 ghost use Rattle.std.specs.Prelude.{◌≡◌, ◌*◌, ◌<◌, ◌≤◌, ◌^◌};
 ghost use Rattle.v_frame_measures.specs.PixelSums.{AreSumsOver};
 ghost use Rattle.v_frame_measures.specs.Ssim.{constants_of, peak_of, similarity_of};
@@ -6,17 +6,17 @@ ghost use Rattle.v_frame_measures.specs.Ssim.{constants_of, peak_of, similarity_
 use crate::casts::{nearest_f32, nearest_f32_to_difference};
 use crate::similarity::sums::PixelSums;
 
-/// What keeps the quotients of SSIM from having a divisor near zero.
+/// The constants that keep the divisors of SSIM away from zero.
 #[derive(Clone, Copy)]
 pub struct SsimConstants {
-    /// That of the means.
+    /// The constant for the means: `(0.01 * peak)^2`, scaled by the 64 pixels of a window and rounded to an integer.
     pub means: u64,
-    /// That of the variances and the covariance.
+    /// The constant for the variances and the covariance: `(0.03 * peak)^2`, scaled by `64 * 63` and rounded to an integer.
     pub variances: u64,
 }
 
 impl SsimConstants {
-    /// Returns those for so many bits of a sample, at most 16.
+    /// Returns the constants for samples of `bit_depth` bits. A `bit_depth` above 16 counts as 16.
     pub(crate) fn of_depth(bit_depth: u8) -> Self
         ensures value { result ≡ constants_of (peak_of bit_depth) }
         ensures means { result.means < 2 ^ 40 }
@@ -30,7 +30,7 @@ impl SsimConstants {
     }
 }
 
-/// Returns the similarity of two windows of 8 by 8 pixels that have these sums.
+/// Returns the similarity of two windows of 8 by 8 pixels from the sums over them.
 #[inline(always)]
 pub(crate) fn similarity(constants: &SsimConstants, sums: &PixelSums) -> f32
     requires sums { AreSumsOver 64 sums.now }

@@ -1,5 +1,5 @@
-//! Changes of the rows of a buffer: each pixel by a function, alone or with that of another picture, all to one pixel, or all to
-//! another picture in half the size.
+//! Operations that write the rows of a buffer: map each pixel, combine it with a pixel of another picture, fill, or write
+//! another picture in half its size.
 ghost use Rattle.std.specs.Prelude.{◌≡◌, ◌+◌, ◌*◌, ◌<◌, ℕ, List, length, replicate, slice_get, Some};
 ghost use Rattle.v_frame.specs.Prelude.{halved, height_of, strided_rows, width_of, KeepsRest, RowsFit};
 ghost use Rattle.v_frame_ops.specs.Change.{mapped, combined, MapsPixels, CombinesPixels};
@@ -8,7 +8,7 @@ ghost use Rattle.v_frame_ops.specs.Rows.{MapsItems, CombinesItems};
 use v_frame::pixel::{Pixel, fill_row};
 use v_frame::plane::RowsRef;
 
-/// Sets each pixel of the rows to `pixel`.
+/// Sets each pixel of the rows in `buffer` to `pixel`.
 #[tactic(auto, using(v_frame_raster::proofs::tables::StridedWrites::row_ends))]
 pub fn fill<T: Pixel>(buffer: &mut [T], width: usize, height: usize, stride: usize, pixel: T)
     requires { RowsFit width height stride (length buffer.old) }
@@ -22,7 +22,7 @@ pub fn fill<T: Pixel>(buffer: &mut [T], width: usize, height: usize, stride: usi
     }
 }
 
-/// Makes each pixel of the rows a result of `change` at it, which has to accept any pixel.
+/// Replaces each pixel of the rows in `buffer` by the result of `change` for it. `change` must accept every pixel of the type.
 pub fn map_pixels<T: Pixel, F: Fn(T) -> T>(
     buffer: &mut [T],
     width: usize,
@@ -42,8 +42,8 @@ pub fn map_pixels<T: Pixel, F: Fn(T) -> T>(
     map_rows(buffer, width, height, stride, &change);
 }
 
-/// Makes each pixel of the rows a result of `combine` at it and at the pixel of the same column and row of `other`, which has the
-/// same size.
+/// Replaces each pixel of the rows in `buffer` by the result of `combine` for it and the pixel of `other` in the same column
+/// and row. `combine` must accept every pair of pixels of the type. `other` has the same size as the rows.
 pub fn combine_pixels<T: Pixel, F: Fn(T, T) -> T>(
     buffer: &mut [T],
     width: usize,
@@ -66,8 +66,8 @@ pub fn combine_pixels<T: Pixel, F: Fn(T, T) -> T>(
     combine_rows(buffer, width, height, stride, other, &combine);
 }
 
-/// Makes the rows show what `source` shows, in half the size: each pixel is the mean of a block of two by two, rounded to the
-/// nearest value and upwards at a half.
+/// Writes `source` in half its width and half its height into the rows in `buffer`. Each pixel is the mean of a block of 2 by 2
+/// source pixels, rounded to the nearest integer, halves up. The size of `source` is exactly twice the size of the rows.
 #[tactic(auto, using(v_frame_raster::proofs::tables::StridedWrites::row_ends))]
 pub fn downscale<T: Pixel>(
     source: &RowsRef<'_, T>,
@@ -85,7 +85,7 @@ pub fn downscale<T: Pixel>(
         ≡ Some (halved T.form top bottom) }
     ensures rest { KeepsRest width height stride buffer.old buffer.new }
 {
-    // Sizes that were read fit their type, and so do the numbers of rows below them.
+    // Reading the sizes shows that they fit their type, and so do the row numbers below them.
     let _sizes = (source.width(), source.height());
     for y in 0..height {
         let top = source.visible_row(2 * y);
@@ -95,7 +95,7 @@ pub fn downscale<T: Pixel>(
     }
 }
 
-/// Makes each row one of results of `change`.
+/// Replaces each pixel of the rows by the result of `change` for it, row by row.
 #[tactic(auto, using(v_frame_raster::proofs::tables::StridedWrites::row_ends))]
 fn map_rows<T: Copy, F: Fn(T) -> T>(
     buffer: &mut [T],
@@ -117,7 +117,7 @@ fn map_rows<T: Copy, F: Fn(T) -> T>(
     }
 }
 
-/// Makes each pixel of a row a result of `change` at it.
+/// Replaces each pixel of `row` by the result of `change` for it.
 fn map_row<T: Copy, F: Fn(T) -> T>(row: &mut [T], change: &F)
     requires { F.IsAlwaysCallable change.now }
     ensures { MapsItems (F.post change.now) row.old row.new }
@@ -127,7 +127,7 @@ fn map_row<T: Copy, F: Fn(T) -> T>(row: &mut [T], change: &F)
     }
 }
 
-/// Makes each row one of results of `combine`.
+/// Replaces each pixel of the rows by the result of `combine` for it and the pixel of `other` at the same position, row by row.
 #[tactic(auto, using(v_frame_raster::proofs::tables::StridedWrites::row_ends))]
 fn combine_rows<T: Copy, F: Fn(T, T) -> T>(
     buffer: &mut [T],
@@ -149,12 +149,12 @@ fn combine_rows<T: Copy, F: Fn(T, T) -> T>(
     for y in 0..height {
         let start = stride * y;
         let row = &mut buffer[start..start + width];
-        // A row takes no test of its length.
+        // The slice is as long as `row`, so the compiler drops the length checks of the loop over the row.
         combine_row(row, &other.visible_row(y)[..width], combine);
     }
 }
 
-/// Makes each pixel of a row a result of `combine` at it and at the pixel of the same index in the other row.
+/// Replaces each pixel of `row` by the result of `combine` for it and the pixel of `other` at the same index.
 fn combine_row<T: Copy, F: Fn(T, T) -> T>(row: &mut [T], other: &[T], combine: &F)
     requires callable { F.IsAlwaysCallable combine.now }
     requires wide { length other.now ≡ length row.old }

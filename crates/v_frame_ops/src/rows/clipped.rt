@@ -1,4 +1,4 @@
-//! Rows of a buffer that show another picture as far as it lies on them.
+//! Copies of a picture into the rows of a buffer, clipped to these rows.
 ghost use Rattle.std.specs.Prelude.{◌≡◌, ◌+◌, ◌+ℤ◌, ◌<◌, ◌≤◌, ℕ, length, pos};
 ghost use Rattle.v_frame.specs.Prelude.{height_of, pixel_at, strided_rows, width_of, KeepsRest, RowsFit};
 ghost use Rattle.v_frame_ops.specs.Compose.{LiesOn};
@@ -6,8 +6,9 @@ ghost use Rattle.v_frame_ops.specs.Compose.{LiesOn};
 use v_frame::pixel::Pixel;
 use v_frame::plane::{RowsRef, copy_rows};
 
-/// Writes all that `source` shows into the rows, with its first pixel at column `x` of row `y`, either of which may be negative
-/// or past the edge: what lies outside is left out.
+/// Copies the pixels of `source` into the rows in `buffer`, clipped to these rows. The top left pixel of `source` belongs at
+/// column `x` of row `y`, and both numbers may be negative or lie past the edge. Source pixels that fall outside the rows are
+/// skipped.
 pub fn copy_region_clipped<T: Pixel>(
     source: &RowsRef<'_, T>,
     buffer: &mut [T],
@@ -37,19 +38,19 @@ pub fn copy_region_clipped<T: Pixel>(
     copy_rows(&part, from, across.count, down.count, stride);
 }
 
-/// Where columns of a source, or its rows, lie on those of a target.
+/// The overlap of a source with a target along one axis: its columns or its rows.
 #[derive(Clone, Copy)]
 struct Overlap {
-    /// How many of the source lie in front of the target.
+    /// The number of source columns (or rows) before the target begins.
     skipped: usize,
-    /// The target's first one that the source lies on.
+    /// The first column (or row) of the target that the source covers.
     start: usize,
-    /// How many of the source lie on the target.
+    /// The number of columns (or rows) in which the source and the target overlap.
     count: usize,
 }
 
 impl Overlap {
-    /// Returns where `source` columns, or rows, lie on `target` ones if the first is put at `offset`.
+    /// Returns the overlap of `source` columns (or rows) with `target` columns (or rows) if the source begins at `offset`.
     fn new(offset: isize, source: usize, target: usize) -> Self
         ensures in_source { 0 < result.count → result.skipped + result.count ≤ source }
         ensures in_target { 0 < result.count → result.start + result.count ≤ target }

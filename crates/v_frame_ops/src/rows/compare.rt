@@ -1,4 +1,4 @@
-//! Comparisons of two pictures of one size.
+//! Comparisons of two pictures of the same size.
 ghost use Rattle.std.specs.Prelude.{◌≡◌, ◌≢◌, ◌<◌, ◌≤◌, ◌*◌, ◌^◌, ◌↔◌, ℕ, length, slice_get, IsNone, IsTrue, IfSome};
 ghost use Rattle.v_frame.specs.Prelude.{absolute_differences, height_of, row_major, squared_errors, width_of};
 ghost use Rattle.v_frame_ops.specs.Compare.{SameBelow, DifferFirstAt, IsFirstDifference};
@@ -8,8 +8,8 @@ use crate::rows::sums::{AbsoluteDifferences, SquaredErrors, sum_of};
 use v_frame::pixel::Pixel;
 use v_frame::plane::RowsRef;
 
-/// Returns the sum of the absolute differences of the pixels of two pictures, pixel by pixel. It is exact, and never too
-/// large.
+/// Returns the sum of absolute differences (SAD) of two pictures of the same size: the sum of `|p - q|` over all pairs of
+/// pixels `p` of `a` and `q` of `b` at the same column and row. The sum is exact and never overflows.
 #[inline(always)]
 pub fn sum_of_absolute_differences<T: Pixel>(a: &RowsRef<'_, T>, b: &RowsRef<'_, T>) -> u128
     requires wide { width_of a.now ≡ width_of b.now }
@@ -19,8 +19,8 @@ pub fn sum_of_absolute_differences<T: Pixel>(a: &RowsRef<'_, T>, b: &RowsRef<'_,
     sum_of::<T, AbsoluteDifferences>(a, b)
 }
 
-/// Returns the sum of the squares of the differences of the pixels of two pictures, pixel by pixel. It is exact, and never
-/// too large.
+/// Returns the sum of squared errors (SSE) of two pictures of the same size: the sum of `(p - q)^2` over all pairs of pixels
+/// `p` of `a` and `q` of `b` at the same column and row. The sum is exact and never overflows.
 #[inline(always)]
 pub fn sum_of_squared_errors<T: Pixel>(a: &RowsRef<'_, T>, b: &RowsRef<'_, T>) -> u128
     requires wide { width_of a.now ≡ width_of b.now }
@@ -31,8 +31,8 @@ pub fn sum_of_squared_errors<T: Pixel>(a: &RowsRef<'_, T>, b: &RowsRef<'_, T>) -
     sum_of::<T, SquaredErrors>(a, b)
 }
 
-/// Returns the column and the row of the first pixel, row after row from the top, that differs. `None` exactly where the
-/// pictures are the same.
+/// Returns the column and the row of the first pixel that differs between two pictures of the same size. Pixels are compared
+/// from left to right within a row, and rows from top to bottom. Returns `None` if and only if all pixels are equal.
 pub fn first_difference<T: Pixel>(a: &RowsRef<'_, T>, b: &RowsRef<'_, T>) -> Option<(usize, usize)>
     requires wide { width_of a.now ≡ width_of b.now }
     requires high { height_of a.now ≡ height_of b.now }
@@ -51,7 +51,8 @@ pub fn first_difference<T: Pixel>(a: &RowsRef<'_, T>, b: &RowsRef<'_, T>) -> Opt
     None
 }
 
-/// Returns the first index at which two rows differ. Rows that are the same are told at once, many pixels at a time.
+/// Returns the first index at which two rows of the same length differ. Equal rows are recognized by one comparison of the
+/// whole rows, which handles many pixels at a time.
 fn first_difference_of_rows<T: Pixel>(row: &[T], other: &[T]) -> Option<usize>
     requires { length row.now ≡ length other.now }
     ensures none { IsNone result → SameBelow row.now other.now (length row.now) }
@@ -68,14 +69,14 @@ fn first_difference_of_rows<T: Pixel>(row: &[T], other: &[T]) -> Option<usize>
     None
 }
 
-/// Returns whether two rows are the same.
+/// Returns whether two rows are equal.
 fn are_rows_same<T: Pixel>(row: &[T], other: &[T]) -> bool
     ensures { IsTrue result ↔ (row.now ≡ other.now) }
 {
     row == other
 }
 
-/// Returns whether two pixels are one and the same.
+/// Returns whether two pixels are equal.
 fn are_same<T: Pixel>(p: T, q: T) -> bool
     ensures { IsTrue result ↔ (p ≡ q) }
 {

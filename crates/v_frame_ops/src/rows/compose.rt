@@ -1,4 +1,4 @@
-//! Rows of a buffer composed with another picture: blended, evenly or by a mask, or made to show how far the two are apart.
+//! Rows of a buffer combined with another picture: blended evenly, blended by a mask, or replaced by an amplified difference.
 ghost use Rattle.std.specs.Prelude.{◌≡◌, ◌+◌, ◌-◌, ◌*◌, ◌/◌, ◌^◌, ◌<◌, ◌≤◌, ℕ, length, min, slice_get, Some};
 ghost use Rattle.std.specs.Int.{abs_diff};
 ghost use Rattle.v_frame.specs.Prelude.{height_of, pixel_at, strided_rows, width_of, KeepsRest, RowsFit};
@@ -10,11 +10,11 @@ use v_frame::laws::depths_fit;
 use v_frame::pixel::Pixel;
 use v_frame::plane::RowsRef;
 
-/// Blends `source`, which has the same size, over the rows: of 256 parts of each pixel it has `weight`, and what was there the
-/// rest.
+/// Blends `source` over the rows in `buffer` with one weight. `source` has the same size as the rows.
 ///
-/// A pixel of value `p` becomes `(p * (256 - weight) + q * weight + 128) / 256`, where `q` is the value of the source's pixel.
-/// So a weight of 0 keeps the rows, and one of 256 copies the source.
+/// `weight` is at most 256. The source contributes `weight / 256` of each pixel and the rows the rest. A pixel of value `p`
+/// becomes `(p * (256 - weight) + q * weight + 128) / 256`, where `q` is the value of the source pixel and the division rounds
+/// down. A weight of 0 leaves the rows unchanged, and a weight of 256 copies the source.
 pub fn blend<T: Pixel>(
     source: &RowsRef<'_, T>,
     buffer: &mut [T],
@@ -45,11 +45,12 @@ pub fn blend<T: Pixel>(
     );
 }
 
-/// Blends `source` over the rows by `mask`, both of the same size: of 255 parts of each pixel the source has as many as the
-/// mask holds there, and what was there the rest.
+/// Blends `source` over the rows in `buffer`, each pixel with its own weight from `mask`. `source` and `mask` have the same
+/// size as the rows.
 ///
-/// A pixel of value `p` becomes `(p * (255 - m) + q * m) / 255`, rounded to the nearest value, where `q` is the value of the
-/// source's pixel and `m` that of the mask's. So 0 keeps a pixel, and 255 copies the source's.
+/// A pixel of value `p` becomes `(p * (255 - m) + q * m) / 255`, rounded to the nearest integer, where `q` is the value of the
+/// source pixel and `m` the value of the mask pixel. A mask value of 0 leaves the pixel unchanged, and a mask value of 255
+/// copies the source pixel.
 #[tactic(auto, using(v_frame_raster::proofs::tables::StridedWrites::row_ends))]
 pub fn blend_with_mask<T: Pixel>(
     source: &RowsRef<'_, T>,
@@ -81,11 +82,12 @@ pub fn blend_with_mask<T: Pixel>(
     }
 }
 
-/// Makes each pixel of the rows the difference from the pixel of the same column and row of `other`, which has the same size,
-/// times `gain`, and at most the largest value of a bit depth.
+/// Replaces each pixel of the rows in `buffer` by its absolute difference from the pixel of `other` in the same column and row,
+/// multiplied by `gain` and clipped to the largest value of the bit depth.
 ///
-/// A pixel of value `p` becomes `min(|p - q| * gain, 2^depth - 1)`, where `q` is the value of the other's pixel. With a gain of 1
-/// it is what ffmpeg's filter `blend=difference` shows. The depth has to fit the type: at most 8 bits for `u8`, and 16 for `u16`.
+/// A pixel of value `p` becomes `min(|p - q| * gain, 2^depth - 1)`, where `q` is the value of the pixel of `other`. With a gain
+/// of 1 the result equals that of FFmpeg's filter `blend=difference`. `other` has the same size as the rows. `depth` is at most
+/// 8 for `u8` and at most 16 for `u16`.
 pub fn difference<T: Pixel>(
     other: &RowsRef<'_, T>,
     buffer: &mut [T],
@@ -118,7 +120,7 @@ pub fn difference<T: Pixel>(
     );
 }
 
-/// Blends pixels over a row by a mask, both as long as the row.
+/// Blends `source` over `row`, each pixel with its weight from `mask`. All three have the same length.
 fn blend_row_with_mask<T: Pixel>(row: &mut [T], source: &[T], mask: &[u8])
     requires wide { length source.now ≡ length row.old }
     requires mask { length mask.now ≡ length row.old }
@@ -129,20 +131,20 @@ fn blend_row_with_mask<T: Pixel>(row: &mut [T], source: &[T], mask: &[u8])
     }
 }
 
-/// Returns the mean of two pixels, of which the second has `weight` of 256 parts.
+/// Returns the weighted mean of two pixels, in which `q` has the weight `weight / 256`.
 #[inline(always)]
 pub(crate) fn blend_pixel<T: Pixel>(p: T, q: T, weight: u16) -> T
     requires { weight ≤ 256 }
     ensures { result ≡ blended T.form 256 weight p q }
 {
     let (p, q) = (p.into_u16(), q.into_u16());
-    // Sums of bytes fit 16 bits, so that twice as many are made at once.
+    // A weighted sum of bytes fits 16 bits, so a vector register holds twice as many sums as with 32 bits.
     let high = weighted_sum((p / 256) as u8, (q / 256) as u8, weight);
     let low = weighted_sum((p % 256) as u8, (q % 256) as u8, weight);
     T::from_value(high + (low + 128) / 256)
 }
 
-/// Returns 256 times the mean of two bytes, of which the second has `weight` of 256 parts.
+/// Returns 256 times the weighted mean of two bytes, in which `q` has the weight `weight / 256`.
 #[inline(always)]
 fn weighted_sum(p: u8, q: u8, weight: u16) -> u16
     requires { weight ≤ 256 }
@@ -152,7 +154,7 @@ fn weighted_sum(p: u8, q: u8, weight: u16) -> u16
     u16::from(p) * (256 - weight) + u16::from(q) * weight
 }
 
-/// Returns the mean of two pixels, of which the second has `weight` of 255 parts.
+/// Returns the weighted mean of two pixels, in which `q` has the weight `weight / 255`.
 #[inline(always)]
 pub(crate) fn blend_pixel_by_mask<T: Pixel>(p: T, q: T, weight: u8) -> T
     ensures { result ≡ blended T.form 255 weight p q }
@@ -165,7 +167,8 @@ pub(crate) fn blend_pixel_by_mask<T: Pixel>(p: T, q: T, weight: u8) -> T
     T::from_value(quotient_by_255(sum + 127) as u16)
 }
 
-/// Returns a number below 65,535 times 256 divided by 255, by shifts: of a division the compiler would make long products.
+/// Returns `number / 255` for a number below 65,535 * 256. It uses shifts, because the compiler would turn the division into a
+/// wide multiplication.
 #[inline(always)]
 fn quotient_by_255(number: u32) -> u32
     requires { number < 65535 * 256 }
@@ -185,7 +188,7 @@ pub(crate) fn largest_value<T: Pixel>(depth: u8) -> u16
     ((1u32 << depth) - 1) as u16
 }
 
-/// Returns how far two pixels are apart, times `gain`, and at most `largest`.
+/// Returns the absolute difference of two pixels, multiplied by `gain` and clipped to `largest`.
 #[inline(always)]
 pub(crate) fn pixel_difference<T: Pixel>(p: T, q: T, gain: u16, largest: u16) -> T
     requires { largest < 256 ^ T.BYTES }
@@ -193,7 +196,7 @@ pub(crate) fn pixel_difference<T: Pixel>(p: T, q: T, gain: u16, largest: u16) ->
 {
     let apart = p.into_u16().abs_diff(q.into_u16());
     if T::BYTES == 1 {
-        // A gain of 255 is as much as any larger one, and its products fit 16 bits.
+        // For bytes a gain of 255 has the same effect as any larger gain, and the product fits 16 bits.
         return T::from_value((apart * gain.min(255)).min(largest));
     }
     T::from_value((u32::from(apart) * u32::from(gain)).min(u32::from(largest)) as u16)

@@ -1,4 +1,4 @@
-//! Sums of what the pixels of two pictures of one size differ by.
+//! Sums over the differences between the pixels of two pictures of the same size.
 ghost use Rattle.std.specs.Prelude.{◌≡◌, ◌*◌, ◌^◌, ◌≤◌, ℕ, length, sum_by, zip};
 ghost use Rattle.std.specs.Int.{abs_diff};
 ghost use Rattle.v_frame.specs.Prelude.{AddsUp, height_of, squared_error, width_of};
@@ -8,19 +8,19 @@ use v_frame::laws::sums_of_pairs_add_up;
 use v_frame::pixel::Pixel;
 use v_frame::plane::RowsRef;
 
-/// What two pixels differ by, as it is summed over rows.
+/// A measure of the difference between two pixels that can be summed over rows.
 pub(crate) trait RowDifference<T> {
-    // What two pixels at the same place add.
+    // The summand for two pixels at the same position.
     ghost between: { T → T → ℕ };
 
-    /// Returns what two rows of one length add.
+    /// Returns the sum of the summands over two rows of the same length.
     fn of_rows(a: &[T], b: &[T]) -> u128
         requires { length a.now ≡ length b.now }
         ensures value { result ≡ sum_by (λ p. between p.0 p.1) (zip a.now b.now) }
         ensures fits { result ≤ 2 ^ 32 * length a.now };
 }
 
-/// The absolute difference.
+/// The absolute difference of two pixels.
 pub(crate) struct AbsoluteDifferences;
 
 impl<T: Pixel> RowDifference<T> for AbsoluteDifferences {
@@ -32,7 +32,7 @@ impl<T: Pixel> RowDifference<T> for AbsoluteDifferences {
     }
 }
 
-/// The square of the difference.
+/// The squared difference of two pixels.
 pub(crate) struct SquaredErrors;
 
 impl<T: Pixel> RowDifference<T> for SquaredErrors {
@@ -44,14 +44,15 @@ impl<T: Pixel> RowDifference<T> for SquaredErrors {
     }
 }
 
-/// What is summed over two pictures is summed row by row.
+/// The sum over two pictures is the sum over the pairs of their rows.
 fn differences_add_up<T, D: RowDifference<T>>()
     ensures { AddsUp (λ xs ys. sum_by (λ p. D.between p.0 p.1) (zip xs ys)) }
 {
     sums_of_pairs_add_up::<T>();
 }
 
-/// Returns the sum over the pixels of two pictures. The smallest block is told apart where it is called.
+/// Returns the sum over the pixels of two pictures. The size 8 by 8 is handled here, so that the compiler inlines it at the
+/// call.
 #[inline(always)]
 pub(crate) fn sum_of<T: Pixel, D: RowDifference<T>>(a: &RowsRef<'_, T>, b: &RowsRef<'_, T>) -> u128
     requires wide { width_of a.now ≡ width_of b.now }
@@ -64,7 +65,8 @@ pub(crate) fn sum_of<T: Pixel, D: RowDifference<T>>(a: &RowsRef<'_, T>, b: &Rows
     sum_of_any_size::<T, D>(a, b)
 }
 
-/// Returns the same sum of pictures of any size. It stays out of line, so that a caller with small blocks has no more than these.
+/// Returns the sum over the pixels of two pictures of any size. The function is never inlined, so that the code for 8 by 8
+/// blocks stays small in the caller.
 #[inline(never)]
 fn sum_of_any_size<T: Pixel, D: RowDifference<T>>(a: &RowsRef<'_, T>, b: &RowsRef<'_, T>) -> u128
     requires wide { width_of a.now ≡ width_of b.now }
@@ -74,14 +76,15 @@ fn sum_of_any_size<T: Pixel, D: RowDifference<T>>(a: &RowsRef<'_, T>, b: &RowsRe
     match a.width() {
         8 => sum_of_size::<T, D>(a, b, 8, a.height()),
         16 => sum_of_size::<T, D>(a, b, 16, a.height()),
-        // Rows of more bytes take longer all at once.
+        // For pixels of two bytes, rows of these widths are faster with a width that is not a constant.
         32 if T::BYTES == 1 => sum_of_size::<T, D>(a, b, 32, a.height()),
         64 if T::BYTES == 1 => sum_of_size::<T, D>(a, b, 64, a.height()),
         _ => sum_of_any_width::<T, D>(a, b),
     }
 }
 
-/// Returns the same sum of pictures of any width. It stays out of line, so that a call for a block saves no registers for it.
+/// Returns the sum over the pixels of two pictures of any width. The function is never inlined, so that a call for a small
+/// block saves no registers for it.
 #[inline(never)]
 fn sum_of_any_width<T: Copy, D: RowDifference<T>>(a: &RowsRef<'_, T>, b: &RowsRef<'_, T>) -> u128
     requires wide { width_of a.now ≡ width_of b.now }
@@ -91,8 +94,8 @@ fn sum_of_any_width<T: Copy, D: RowDifference<T>>(a: &RowsRef<'_, T>, b: &RowsRe
     sum_of_size::<T, D>(a, b, a.width(), a.height())
 }
 
-/// Returns the same sum of pictures of this size. Where a width is a constant, a row takes no test of its length, and where a
-/// height is one, the compiler makes no loop of the rows of a small block.
+/// Returns the sum over the pixels of two pictures of this size. If `width` is a constant, the row loop needs no length check.
+/// If `height` is also a constant, the compiler unrolls the loop over the rows of a small block.
 #[inline(always)]
 fn sum_of_size<T: Copy, D: RowDifference<T>>(
     a: &RowsRef<'_, T>,

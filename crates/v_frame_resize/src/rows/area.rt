@@ -1,4 +1,4 @@
-//! Resizing by area.
+//! Pictures resized by a box filter.
 ghost use Rattle.std.specs.Prelude.{◌≡◌, ◌-◌, ◌*◌, ◌^◌, ◌<◌, ◌≤◌, ◌↔◌, ℕ, length, slice_get, Some, IsTrue};
 ghost use Rattle.v_frame.specs.Prelude.{pixel_at, strided_rows, width_of, height_of, KeepsRest, RowsFit};
 ghost use Rattle.v_frame_resize.specs.Resize.{row_sum, area_sum, area_mean, CanResize};
@@ -8,9 +8,10 @@ use crate::span::{Span, first_pixel, next_first, span_from};
 use v_frame::pixel::Pixel;
 use v_frame::plane::RowsRef;
 
-/// Returns whether the units and the sums of these sizes can be counted, as [`resize_area`] asks.
+/// Returns whether [`resize_area`] can resize a picture of `source_width` by `source_height` pixels to `width` by `height`
+/// pixels: the products of both widths and of both heights must be below 2^64, and the source must have at most 2^48 pixels.
 ///
-/// So it is wherever the source has at most 2^48 pixels, and all widths and heights are below 2^32.
+/// This holds for every source of at most 2^48 pixels if all widths and heights are below 2^32.
 pub fn can_resize(source_width: usize, source_height: usize, width: usize, height: usize) -> bool
     ensures { IsTrue result ↔ CanResize source_width source_height width height }
 {
@@ -23,10 +24,11 @@ pub fn can_resize(source_width: usize, source_height: usize, width: usize, heigh
     }
 }
 
-/// Makes the rows show what `source` shows, in their size: each pixel is the mean of the area that it covers, rounded to the
-/// nearest value and upwards at a half.
+/// Resizes `source` to the size of the rows in `buffer` with a box filter: each pixel is the mean of the area of `source` that
+/// it covers. Source pixels that are covered only in part are weighted by the covered area.
 ///
-/// Pixels that are covered in part count in part. The mean is exact: nothing is rounded before.
+/// The mean is computed exactly, then rounded once to the nearest integer, halves up. The sizes must pass the test of
+/// [`can_resize`].
 #[tactic(auto, using(v_frame_raster::proofs::tables::StridedWrites::row_ends))]
 pub fn resize_area<T: Pixel>(
     source: &RowsRef<'_, T>,
@@ -48,7 +50,7 @@ pub fn resize_area<T: Pixel>(
     }
 }
 
-/// Makes row `y` of a target of a height, which has the width of the row.
+/// Writes row `y` of a target with this height. The width of the target is the length of `row`.
 fn resize_row<T: Pixel>(source: &RowsRef<'_, T>, row: &mut [T], height: usize, y: usize)
     requires some { 0 < length row.old }
     requires within { y < height }
@@ -74,7 +76,8 @@ fn resize_row<T: Pixel>(source: &RowsRef<'_, T>, row: &mut [T], height: usize, y
     }
 }
 
-/// Returns the sum of the values that the pixel at a place of a target of a size covers, each times the units.
+/// Returns the sum of the source values that the target pixel at `place` covers, each multiplied by the number of covered
+/// units. `size` is the size of the target.
 #[inline(always)]
 fn sum_of_area<T: Pixel>(
     source: &RowsRef<'_, T>,
@@ -104,7 +107,7 @@ fn sum_of_area<T: Pixel>(
     head + size.1 * inner + tail
 }
 
-/// Returns the sum of the values of a row that a span covers, each times the units.
+/// Returns the sum of the values of a source row that a span covers, each multiplied by the number of covered units.
 #[inline(always)]
 fn sum_of_row<T: Pixel>(row: &[T], width: usize, x: usize, across: Span) -> usize
     requires countable { length row.now * width < 2 ^ 64 }

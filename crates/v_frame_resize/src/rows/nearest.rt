@@ -1,4 +1,4 @@
-//! Resizing by the nearest pixel.
+//! Pictures resized by the nearest neighbor.
 ghost use Rattle.std.specs.Prelude.{◌≡◌, ◌/◌, ◌^◌, ◌<◌, ◌≤◌, ℕ, Some, length, slice_get};
 ghost use Rattle.v_frame.specs.Prelude.{pixel_at, strided_rows, width_of, height_of, KeepsRest, RowsFit};
 ghost use Rattle.v_frame_resize.specs.Resize.{nearest};
@@ -6,9 +6,11 @@ ghost use Rattle.v_frame_resize.specs.Resize.{nearest};
 use crate::center::{PARTS, first_center, half_step, next_center};
 use v_frame::plane::RowsRef;
 
-/// Makes the rows show what `source` shows, in their size: each pixel is the one of the source that holds its center.
+/// Resizes `source` to the size of the rows in `buffer` by the nearest neighbor: each pixel is the source pixel that contains
+/// its center. If the center lies between two source pixels, the right one or the lower one is used.
 ///
-/// Where the center is between two pixels, it is the one to the right, or below.
+/// The pixel at column `x` is the source pixel at column `(2 * x + 1) * source_width / (2 * width)`, rounded down, and rows are
+/// chosen in the same way. All widths and heights are below 2^62.
 #[tactic(auto, using(v_frame_raster::proofs::tables::StridedWrites::row_ends))]
 pub fn resize_nearest<T: Copy>(
     source: &RowsRef<'_, T>,
@@ -39,7 +41,7 @@ pub fn resize_nearest<T: Copy>(
     }
 }
 
-/// Makes each pixel of a row the one of another row that holds its center.
+/// Sets each pixel of `out` to the pixel of `row` that contains its center.
 fn nearest_row<T: Copy>(out: &mut [T], row: &[T])
     requires some { 0 < length out.old }
     requires row_some { 0 < length row.now }
@@ -55,8 +57,9 @@ fn nearest_row<T: Copy>(out: &mut [T], row: &[T])
     }
 }
 
-/// The same of rows that are not too long: from one center to the next it is a whole number of parts of a pixel, rounded up, of
-/// which there are so many that no center comes to lie in the next pixel.
+/// Sets each pixel of `out` to the pixel of `row` that contains its center, for rows of at most 65,536 pixels. The distance
+/// between two centers is rounded up to whole parts of a source pixel. The parts are so small that no center moves into the
+/// next pixel.
 fn nearest_by_parts<T: Copy>(out: &mut [T], row: &[T])
     requires some { 0 < length out.old }
     requires row_some { 0 < length row.now }
@@ -82,7 +85,7 @@ fn nearest_by_parts<T: Copy>(out: &mut [T], row: &[T])
     }
 }
 
-/// Returns the pixel of a row at so many parts of a pixel.
+/// Returns the pixel of `row` at a position that is counted in parts of a pixel.
 #[inline(always)]
 fn pixel_at_place<T: Copy>(row: &[T], place: usize) -> T
     requires { place / 1099511627776 < length row.now }
@@ -91,7 +94,7 @@ fn pixel_at_place<T: Copy>(row: &[T], place: usize) -> T
     row[place / PARTS]
 }
 
-/// The same of any rows.
+/// Sets each pixel of `out` to the pixel of `row` that contains its center, for rows of any length.
 fn nearest_by_centers<T: Copy>(out: &mut [T], row: &[T])
     requires some { 0 < length out.old }
     requires row_some { 0 < length row.now }

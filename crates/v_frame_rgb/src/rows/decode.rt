@@ -1,4 +1,4 @@
-//! From Y'CbCr to R'G'B': rows of luma and chroma of one size become rows of colors.
+//! From Y'CbCr to R'G'B': rows of luma and chroma samples of the same size become rows of colors.
 ghost use Rattle.std.specs.Prelude.{◌≡◌, ◌*◌, length, flat_map};
 ghost use Rattle.v_frame.specs.Prelude.{strided_rows, width_of, height_of, KeepsRest, RowsFit};
 ghost use Rattle.v_frame_rgb.specs.Colors.{colors_of, color_rows};
@@ -7,9 +7,11 @@ use crate::color::ColorOrder;
 use crate::matrix::RgbMatrix;
 use v_frame::plane::RowsRef;
 
-/// Makes the rows of a buffer the colors of luma and chroma of one size, in the order `O`.
+/// Converts 8-bit luma and chroma of the same size (4:4:4) to colors, and writes them to the rows in `buffer` in the byte order
+/// `O`. Each channel is computed with `matrix` as by [`RgbMatrix::color`].
 ///
-/// `width` and `stride` count bytes. A row of the buffer has [`BYTES`](ColorOrder::BYTES) bytes for each pixel.
+/// `width` and `stride` count bytes. Each row has [`BYTES`](ColorOrder::BYTES) bytes for each pixel of `y`. All bytes of the
+/// buffer outside these rows stay unchanged.
 #[tactic(auto, using(v_frame_raster::proofs::tables::StridedWrites::row_ends))]
 pub fn yuv444_to_rgb<O: ColorOrder>(
     y: &RowsRef<'_, u8>,
@@ -39,7 +41,7 @@ pub fn yuv444_to_rgb<O: ColorOrder>(
     }
 }
 
-/// Makes colors of a row of luma and two of chroma, which have its length.
+/// Converts a row of luma and two rows of chroma of the same length to colors.
 fn decode_row<O: ColorOrder>(out: &mut [u8], y: &[u8], u: &[u8], v: &[u8], matrix: RgbMatrix)
     requires out { length out.old ≡ O.BYTES * length y.now }
     requires u { length u.now ≡ length y.now }

@@ -1,4 +1,4 @@
-//! From R'G'B' to Y'CbCr: rows of colors become rows of samples of three channels, or of one.
+//! From R'G'B' to Y'CbCr: rows of colors become rows of the samples of all three channels, or of one channel.
 ghost use Rattle.std.specs.Prelude.{◌≡◌, ◌*◌, length, map};
 ghost use Rattle.v_frame.specs.Prelude.{strided_rows, width_of, height_of, KeepsRest, RowsFit};
 ghost use Rattle.v_frame_rgb.specs.Colors.{colors_in, sample_rows, y_of, u_of, v_of};
@@ -8,9 +8,11 @@ use crate::matrix::YuvMatrix;
 use crate::sample::{Channel, ChromaU, ChromaV, Luma};
 use v_frame::plane::RowsRef;
 
-/// Makes the rows of three buffers the luma and the chroma of a picture of colors, in the order `O`.
+/// Converts a packed picture in the byte order `O` to luma and chroma without subsampling (4:4:4), and writes them to the rows
+/// in the buffers `y`, `u` and `v`.
 ///
-/// A row of the picture has [`BYTES`](ColorOrder::BYTES) bytes for each sample. `strides` are those of `y`, `u` and `v`.
+/// Each row of `source` has [`BYTES`](ColorOrder::BYTES) bytes for each sample, and `source` has `height` rows. `width` and
+/// `height` hold for all three buffers, and `strides` are the strides of `y`, `u` and `v`.
 #[tactic(auto, using(v_frame_raster::proofs::tables::StridedWrites::row_ends))]
 pub fn rgb_to_yuv444<O: ColorOrder>(
     source: &RowsRef<'_, u8>,
@@ -50,9 +52,10 @@ pub fn rgb_to_yuv444<O: ColorOrder>(
     }
 }
 
-/// Makes the rows of a buffer the samples of a picture of colors, in the order `O`, for the channel `C`.
+/// Converts a packed picture in the byte order `O` to the samples of one channel `C` (luma, Cb or Cr), and writes them to the
+/// rows in `buffer`.
 ///
-/// A row of the picture has [`BYTES`](ColorOrder::BYTES) bytes for each sample.
+/// Each row of `source` has [`BYTES`](ColorOrder::BYTES) bytes for each sample, and `source` has `height` rows.
 #[tactic(auto, using(v_frame_raster::proofs::tables::StridedWrites::row_ends))]
 pub fn rgb_to_channel<O: ColorOrder, C: Channel>(
     source: &RowsRef<'_, u8>,
@@ -79,7 +82,7 @@ pub fn rgb_to_channel<O: ColorOrder, C: Channel>(
     }
 }
 
-/// Makes samples of a row of colors, one for each.
+/// Converts a row of colors to one sample for each color.
 fn encode_row<O: ColorOrder, C: Channel>(out: &mut [u8], colors: &[u8], matrix: YuvMatrix)
     requires { length colors.now ≡ O.BYTES * length out.old }
     ensures { out.new
@@ -91,7 +94,7 @@ fn encode_row<O: ColorOrder, C: Channel>(out: &mut [u8], colors: &[u8], matrix: 
     }
 }
 
-/// Makes luma and chroma of a row of colors, one sample of each for each color.
+/// Converts a row of colors to one luma, one Cb and one Cr sample for each color.
 fn encode_channels<O: ColorOrder>(
     y: &mut [u8],
     u: &mut [u8],

@@ -1,4 +1,5 @@
-//! From Y'CbCr of any bit depth to R'G'B': rows of luma and chroma of one size become rows of colors, rounded once.
+//! From Y'CbCr of any bit depth to R'G'B': rows of luma and chroma samples of the same size become rows of colors, rounded
+//! once.
 ghost use Rattle.std.specs.Prelude.{◌≡◌, ◌*◌, length, flat_map};
 ghost use Rattle.v_frame.specs.Prelude.{strided_rows, width_of, height_of, KeepsRest, RowsFit};
 ghost use Rattle.v_frame_rgb.specs.Exact.{exact_colors, exact_color_rows, exact_of_pixels};
@@ -8,9 +9,11 @@ use crate::exact::ExactMatrix;
 use v_frame::pixel::Pixel;
 use v_frame::plane::RowsRef;
 
-/// Makes the rows of a buffer the colors of luma and chroma of one size, in the order `O`. Each channel is rounded once.
+/// Converts luma and chroma of the same size (4:4:4) and of any bit depth to 8-bit colors, and writes them to the rows in
+/// `buffer` in the byte order `O`. Each channel is computed exactly and rounded once, as by [`ExactMatrix::color`].
 ///
-/// `width` and `stride` count bytes. A row of the buffer has [`BYTES`](ColorOrder::BYTES) bytes for each pixel.
+/// `width` and `stride` count bytes. Each row has [`BYTES`](ColorOrder::BYTES) bytes for each pixel of `y`. All bytes of the
+/// buffer outside these rows stay unchanged.
 #[tactic(auto, using(v_frame_raster::proofs::tables::StridedWrites::row_ends))]
 pub fn yuv444_to_rgb_exactly<T: Pixel, O: ColorOrder>(
     y: &RowsRef<'_, T>,
@@ -41,7 +44,7 @@ pub fn yuv444_to_rgb_exactly<T: Pixel, O: ColorOrder>(
     }
 }
 
-/// Makes colors of a row of luma and two of chroma, which have its length.
+/// Converts a row of luma and two rows of chroma of the same length to colors.
 fn decode_row<T: Pixel, O: ColorOrder>(
     out: &mut [u8],
     y: &[T],
@@ -62,7 +65,7 @@ fn decode_row<T: Pixel, O: ColorOrder>(
     }
 }
 
-/// Returns the color of a pixel of luma and two of chroma.
+/// Returns the color of a luma pixel and two chroma pixels.
 #[inline(always)]
 #[tactic(auto, unfolding(crate::specs::Exact::exact_of_pixels))]
 fn color_of_pixels<T: Pixel>(matrix: &ExactMatrix, y: T, u: T, v: T) -> Color

@@ -1,4 +1,4 @@
-//! Counts of pixels, and of pairs of pixels, that pass a test.
+//! Counts of the pixels, or the pairs of pixels, that pass a test.
 ghost use Rattle.std.specs.Prelude.{◌≡◌, ◌*◌, ◌<◌, ◌≤◌, Bool, count_by, length};
 ghost use Rattle.v_frame.specs.Prelude.{height_of, row_major, width_of};
 ghost use Rattle.v_frame_statistics.specs.Count.{passing_pairs};
@@ -6,7 +6,7 @@ ghost use Rattle.v_frame_statistics.specs.Count.{passing_pairs};
 use v_frame::pixel::Pixel;
 use v_frame::plane::RowsRef;
 
-/// Returns how many pixels pass `test`, which has to accept any pixel.
+/// Returns the number of pixels for which `test` returns true. `test` must accept every pixel of the type.
 pub fn count_pixels<T: Pixel, F: Fn(T) -> bool>(rows: &RowsRef<'_, T>, test: F) -> usize
     requires { F.IsAlwaysCallable test }
     ensures value { (t : T → Bool) → ((p : T) (b : Bool) → F.post test p b → b ≡ t p)
@@ -20,7 +20,8 @@ pub fn count_pixels<T: Pixel, F: Fn(T) -> bool>(rows: &RowsRef<'_, T>, test: F) 
     count
 }
 
-/// Returns at how many places the pixels of two pictures of one size pass `test`, which has to accept any two pixels.
+/// Returns the number of positions at which `test` returns true for the pixels of `a` and `b`. Both pictures have the same
+/// size, and `test` must accept every pair of pixels of the type.
 pub fn count_pairs<T: Pixel, F: Fn(T, T) -> bool>(
     a: &RowsRef<'_, T>,
     b: &RowsRef<'_, T>,
@@ -41,7 +42,7 @@ pub fn count_pairs<T: Pixel, F: Fn(T, T) -> bool>(
     count
 }
 
-/// Returns how many pixels of a row pass.
+/// Returns the number of pixels of a row that pass.
 fn count_in_row<T: Copy, F: Fn(T) -> bool>(row: &[T], test: &F) -> usize
     requires { F.IsAlwaysCallable test.now }
     ensures value { (t : T → Bool) → ((p : T) (b : Bool) → F.post test.now p b → b ≡ t p)
@@ -57,8 +58,8 @@ fn count_in_row<T: Copy, F: Fn(T) -> bool>(row: &[T], test: &F) -> usize
     count + usize::from(count_in_block(&row[128 * blocks..], test))
 }
 
-/// Returns how many of a few pixels pass: so few that counters of a byte suffice, of which the compiler has the most in one
-/// register.
+/// Returns the number of pixels of a block that pass. The block is so short that the count fits a byte, so a vector register
+/// holds as many counters as possible.
 fn count_in_block<T: Copy, F: Fn(T) -> bool>(block: &[T], test: &F) -> u8
     requires callable { F.IsAlwaysCallable test.now }
     requires short { length block.now ≤ 128 }
@@ -73,7 +74,7 @@ fn count_in_block<T: Copy, F: Fn(T) -> bool>(block: &[T], test: &F) -> u8
     count
 }
 
-/// Returns at how many indexes the pixels of two rows pass.
+/// Returns the number of indexes at which the pixels of two rows pass.
 fn count_in_two_rows<T: Copy, F: Fn(T, T) -> bool>(row: &[T], other: &[T], test: &F) -> usize
     requires callable { F.IsAlwaysCallable test.now }
     requires same { length other.now ≡ length row.now }
@@ -92,7 +93,7 @@ fn count_in_two_rows<T: Copy, F: Fn(T, T) -> bool>(row: &[T], other: &[T], test:
     count + usize::from(count_in_two_blocks(&row[start..], &other[start..], test))
 }
 
-/// Returns at how many of a few indexes the pixels pass.
+/// Returns the number of indexes at which the pixels of two short blocks pass.
 fn count_in_two_blocks<T: Copy, F: Fn(T, T) -> bool>(block: &[T], other: &[T], test: &F) -> u8
     requires callable { F.IsAlwaysCallable test.now }
     requires same { length other.now ≡ length block.now }

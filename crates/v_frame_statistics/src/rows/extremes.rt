@@ -1,4 +1,4 @@
-//! The least and the greatest pixel.
+//! The minimum and the maximum of the pixels of a picture.
 ghost use Rattle.std.specs.Prelude.{◌≡◌, ◌<◌, ◌≤◌, ◌⊎◌, length};
 ghost use Rattle.v_frame.specs.Prelude.{row_major};
 ghost use Rattle.v_frame_statistics.specs.Extremes.{IsGreatest, IsLeast};
@@ -6,14 +6,14 @@ ghost use Rattle.v_frame_statistics.specs.Extremes.{IsGreatest, IsLeast};
 use v_frame::pixel::Pixel;
 use v_frame::plane::RowsRef;
 
-/// The pixels with the least and with the greatest value.
+/// The pixels with the smallest and the largest value.
 #[derive(Clone, Copy)]
 pub(crate) struct Extremes<T> {
     pub(crate) least: T,
     pub(crate) greatest: T,
 }
 
-/// Returns the pixel with the least value.
+/// Returns the pixel with the smallest value.
 pub fn minimum<T: Pixel>(rows: &RowsRef<'_, T>) -> T
     ensures { IsLeast T.form.value (row_major rows.now) result }
 {
@@ -25,7 +25,7 @@ pub fn minimum<T: Pixel>(rows: &RowsRef<'_, T>) -> T
     least
 }
 
-/// Returns the pixel with the greatest value.
+/// Returns the pixel with the largest value.
 pub fn maximum<T: Pixel>(rows: &RowsRef<'_, T>) -> T
     ensures { IsGreatest T.form.value (row_major rows.now) result }
 {
@@ -37,7 +37,7 @@ pub fn maximum<T: Pixel>(rows: &RowsRef<'_, T>) -> T
     greatest
 }
 
-/// Returns the pixel with the least value in a row.
+/// Returns the pixel with the smallest value in a row.
 fn least_of_row<T: Pixel>(row: &[T]) -> T
     requires { 0 < length row.now }
     ensures { IsLeast T.form.value row.now result }
@@ -52,7 +52,7 @@ fn least_of_row<T: Pixel>(row: &[T]) -> T
     least
 }
 
-/// Returns the pixel with the greatest value in a row.
+/// Returns the pixel with the largest value in a row.
 fn greatest_of_row<T: Pixel>(row: &[T]) -> T
     requires { 0 < length row.now }
     ensures { IsGreatest T.form.value row.now result }
@@ -67,7 +67,7 @@ fn greatest_of_row<T: Pixel>(row: &[T]) -> T
     greatest
 }
 
-/// Returns both pixels of a row.
+/// Returns the pixels with the smallest and the largest value in a row.
 pub(crate) fn extremes_of_row<T: Pixel>(row: &[T]) -> Extremes<T>
     requires { 0 < length row.now }
     ensures least { IsLeast T.form.value row.now result.least }
@@ -82,7 +82,7 @@ pub(crate) fn extremes_of_row<T: Pixel>(row: &[T]) -> Extremes<T>
     Extremes { least, greatest }
 }
 
-/// Returns the pixel with the lesser value, the first of equal ones.
+/// Returns the pixel with the smaller value, or the first one if the values are equal.
 #[inline(always)]
 pub(crate) fn lesser<T: Pixel>(first: T, second: T) -> T
     ensures { ((result ≡ first) × (T.form.value first ≤ T.form.value second))
@@ -95,7 +95,7 @@ pub(crate) fn lesser<T: Pixel>(first: T, second: T) -> T
     }
 }
 
-/// Returns the pixel with the greater value, the first of equal ones.
+/// Returns the pixel with the larger value, or the first one if the values are equal.
 #[inline(always)]
 pub(crate) fn greater<T: Pixel>(first: T, second: T) -> T
     ensures { ((result ≡ first) × (T.form.value second ≤ T.form.value first))

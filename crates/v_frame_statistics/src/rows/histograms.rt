@@ -1,4 +1,4 @@
-//! How often each value occurs.
+//! Histograms of pictures.
 ghost use Rattle.std.specs.Prelude.{◌≡◌, ◌+◌, ◌^◌, ◌<◌, ◌≤◌, ◌∷◌, ℕ, [], IfOk, length, slice_index, slice_set, vec_len};
 ghost use Rattle.v_frame.specs.Prelude.{row_major};
 ghost use Rattle.v_frame_statistics.specs.Histogram.{Counts, CountsMore, HasRoom};
@@ -6,14 +6,14 @@ ghost use Rattle.v_frame_statistics.specs.Histogram.{Counts, CountsMore, HasRoom
 use std::alloc::{AllocError, Global};
 use v_frame::plane::RowsRef;
 
-/// A count of each value of a byte.
+/// A count for each value of a byte.
 type Table = [u64; 256];
 
-/// Returns how often each value occurs: entry `v` counts the pixels of the value `v`.
+/// Returns the histogram of an 8-bit picture: entry `v` is the number of pixels with value `v`.
 pub fn histogram(rows: &RowsRef<'_, u8>) -> [u64; 256]
     ensures { Counts 256 (row_major rows.now) result }
 {
-    // Rows take turns in four tables: the next pixel need not wait for a count of the same value that was just written.
+    // Four rows are counted into four tables, so that a count does not wait for the previous count of the same value.
     let (mut first, mut second) = (empty_table(), empty_table());
     let (mut third, mut fourth) = (empty_table(), empty_table());
     let height = rows.height();
@@ -33,12 +33,12 @@ pub fn histogram(rows: &RowsRef<'_, u8>) -> [u64; 256]
     first
 }
 
-/// Returns how often each value below `2 ^ bit_depth` occurs: entry `v` counts the pixels of the value `v`. A pixel of a
-/// greater value is in no entry.
+/// Returns the histogram of a picture for a bit depth. It has `2^bit_depth` entries, and entry `v` is the number of pixels with
+/// value `v`. A pixel with a value of `2^bit_depth` or more is not counted.
 ///
 /// # Errors
 ///
-/// [`AllocError`] where a request for memory was refused.
+/// Returns [`AllocError`] if the memory for the histogram cannot be allocated.
 pub fn histogram_of_depth(
     alloc: Global,
     rows: &RowsRef<'_, u16>,
@@ -56,7 +56,7 @@ pub fn histogram_of_depth(
     Ok(table)
 }
 
-/// Makes entry `v` of `counts` how many pixels have the value `v`. A pixel of a value that has no entry is not counted.
+/// Sets entry `v` of `counts` to the number of pixels with value `v`. A pixel whose value has no entry is not counted.
 pub fn histogram_into(rows: &RowsRef<'_, u16>, counts: &mut [u64])
     ensures { Counts (length counts.old) (row_major rows.now) counts.new }
 {
@@ -66,7 +66,7 @@ pub fn histogram_into(rows: &RowsRef<'_, u16>, counts: &mut [u64])
     }
 }
 
-/// Returns a table with no counts.
+/// Returns a table of zeros.
 #[inline(always)]
 fn empty_table() -> Table
     ensures { (v : ℕ) → v < 256 → slice_index result v ≡ 0 }
@@ -74,7 +74,7 @@ fn empty_table() -> Table
     [0; 256]
 }
 
-/// Counts the pixels of four rows of one width, each in a table of its own.
+/// Counts the pixels of four rows of the same width, each row into its own table.
 fn count_four_rows(
     first: &mut Table,
     second: &mut Table,
@@ -115,7 +115,7 @@ fn count_row(table: &mut Table, row: &[u8])
     }
 }
 
-/// Counts one more pixel.
+/// Counts one pixel.
 #[inline(always)]
 fn count_one(table: &mut Table, pixel: u8)
     requires { slice_index table.old pixel + 1 < 2 ^ 64 }
@@ -124,7 +124,7 @@ fn count_one(table: &mut Table, pixel: u8)
     table[usize::from(pixel)] += 1;
 }
 
-/// Adds the counts of another table.
+/// Adds the counts of `other` to `table`.
 fn add_tables(table: &mut Table, other: &Table)
     requires { (v : ℕ) → v < 256 → slice_index table.old v + slice_index other.now v < 2 ^ 64 }
     ensures { (v : ℕ) → v < 256
@@ -135,7 +135,7 @@ fn add_tables(table: &mut Table, other: &Table)
     }
 }
 
-/// Counts the pixels of a row that have an entry. Four are read before the first of them is counted.
+/// Counts the pixels of a row whose values have an entry. It reads four pixels before it counts the first of them.
 fn count_words(counts: &mut [u64], row: &[u16])
     requires { HasRoom (length counts.old) counts.old (length row.now) }
     ensures { CountsMore (length counts.old) row.now counts.old counts.new }
@@ -154,7 +154,7 @@ fn count_words(counts: &mut [u64], row: &[u16])
     }
 }
 
-/// Counts one more pixel, if its value has an entry.
+/// Counts one pixel if its value has an entry.
 #[inline(always)]
 fn count_word(counts: &mut [u64], pixel: u16)
     requires { HasRoom (length counts.old) counts.old 1 }

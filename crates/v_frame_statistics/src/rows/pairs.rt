@@ -1,4 +1,4 @@
-//! Sums over two pictures of one size.
+//! Sums over two pictures of the same size.
 ghost use Rattle.std.specs.Prelude.{◌≡◌};
 ghost use Rattle.v_frame.specs.Prelude.{height_of, row_major, width_of};
 ghost use Rattle.v_frame_statistics.specs.PairSums.{ArePairSums};
@@ -7,22 +7,22 @@ use crate::row_pairs::sums_of_two_rows;
 use v_frame::pixel::Pixel;
 use v_frame::plane::RowsRef;
 
-/// Sums over two pictures of one size, of which SSIM, covariance and correlation are made.
+/// The sums over two pictures of the same size from which SSIM, covariance and correlation are computed.
 #[derive(Clone, Copy, Debug, PartialEq, Eq)]
 pub struct PairSums {
     /// The sum of the values of the first picture.
     pub first: u128,
     /// The sum of the values of the second picture.
     pub second: u128,
-    /// The sum of the squares of the values of the first picture.
+    /// The sum of the squared values of the first picture.
     pub first_squares: u128,
-    /// The sum of the squares of the values of the second picture.
+    /// The sum of the squared values of the second picture.
     pub second_squares: u128,
-    /// The sum, over all places, of the product of the two values there.
+    /// The sum of the products of two values at the same position.
     pub products: u128,
 }
 
-/// Returns the sums over two pictures of one size. They are exact, and never too large.
+/// Returns the sums over two pictures of the same size. The sums are exact and never overflow.
 pub fn pair_sums<T: Pixel>(a: &RowsRef<'_, T>, b: &RowsRef<'_, T>) -> PairSums
     requires wide { width_of a.now ≡ width_of b.now }
     requires high { height_of a.now ≡ height_of b.now }

@@ -1,4 +1,4 @@
-//! Sums and extremes at once.
+//! Sums and extremes in one pass.
 ghost use Rattle.std.specs.Prelude.{◌≡◌, ◌*◌, ◌<◌, length};
 ghost use Rattle.v_frame.specs.Prelude.{height_of, row_major, width_of};
 ghost use Rattle.v_frame_statistics.specs.Extremes.{IsGreatest, IsLeast};
@@ -10,22 +10,22 @@ use crate::row_sums::sums_of_row;
 use v_frame::pixel::Pixel;
 use v_frame::plane::RowsRef;
 
-/// What the values of a picture add up to, and between which they lie.
+/// The sums of the values of a picture, with their minimum and maximum.
 #[derive(Clone, Copy, Debug, PartialEq, Eq)]
 pub struct PictureStatistics<T> {
     /// The sum of all values.
     pub sum: u128,
     /// The sum of the squares of all values.
     pub sum_of_squares: u128,
-    /// How many pixels there are, never zero.
+    /// The number of pixels, which is never zero.
     pub count: usize,
-    /// The pixel with the least value.
+    /// The pixel with the smallest value.
     pub minimum: T,
-    /// The pixel with the greatest value.
+    /// The pixel with the largest value.
     pub maximum: T,
 }
 
-/// Returns the sums of which mean and variance are made, and the least and the greatest pixel, and reads each row once.
+/// Returns the sums from which the mean and the variance are computed, and the minimum and the maximum. Each row is read once.
 pub fn statistics<T: Pixel>(rows: &RowsRef<'_, T>) -> PictureStatistics<T>
     ensures sum { result.sum ≡ sum_of_values T.form.value (row_major rows.now) }
     ensures squares { result.sum_of_squares ≡ sum_of_squares T.form.value (row_major rows.now) }

@@ -1,4 +1,4 @@
-//! Sums of values and of their squares, of which means and variances are made.
+//! Sums of values and of their squares, from which the mean and the variance are computed.
 ghost use Rattle.std.specs.Prelude.{◌≡◌, ◌*◌, ◌<◌, ◌≤◌, length};
 ghost use Rattle.v_frame.specs.Prelude.{height_of, row_major, width_of};
 ghost use Rattle.v_frame_statistics.specs.Sums.{sum_of_squares, sum_of_values};
@@ -7,27 +7,27 @@ use crate::row_sums::{sums_of_row, values_of_row};
 use v_frame::pixel::Pixel;
 use v_frame::plane::RowsRef;
 
-/// The sum of the values of a picture, and how many it has. The mean is `sum / count`.
+/// The sum of the values of a picture and their number. The mean is `sum / count`.
 #[derive(Clone, Copy, Debug, PartialEq, Eq)]
 pub struct SumAndCount {
     /// The sum of all values.
     pub sum: u128,
-    /// How many pixels there are, never zero.
+    /// The number of pixels, which is never zero.
     pub count: usize,
 }
 
-/// The sums of which the variance of a picture is made: it is `sum_of_squares / count` less the square of `sum / count`.
+/// The sums from which the variance of a picture is computed: `sum_of_squares / count - (sum / count)^2`.
 #[derive(Clone, Copy, Debug, PartialEq, Eq)]
 pub struct VarianceSums {
     /// The sum of all values.
     pub sum: u128,
     /// The sum of the squares of all values.
     pub sum_of_squares: u128,
-    /// How many pixels there are, never zero.
+    /// The number of pixels, which is never zero.
     pub count: usize,
 }
 
-/// Returns the sum of all values. It is exact, and never too large.
+/// Returns the sum of all values. The sum is exact and never overflows.
 pub fn sum<T: Pixel>(rows: &RowsRef<'_, T>) -> u128
     ensures value { result ≡ sum_of_values T.form.value (row_major rows.now) }
     ensures bound { result ≤ 65536 * (height_of rows.now * width_of rows.now) }
@@ -39,7 +39,7 @@ pub fn sum<T: Pixel>(rows: &RowsRef<'_, T>) -> u128
     sum
 }
 
-/// Returns the two numbers whose quotient is the mean.
+/// Returns the sum of all values and the number of pixels. Their quotient is the mean.
 pub fn sum_and_count<T: Pixel>(rows: &RowsRef<'_, T>) -> SumAndCount
     ensures sum { result.sum ≡ sum_of_values T.form.value (row_major rows.now) }
     ensures count { result.count ≡ length (row_major rows.now) }
@@ -52,7 +52,7 @@ pub fn sum_and_count<T: Pixel>(rows: &RowsRef<'_, T>) -> SumAndCount
     }
 }
 
-/// Returns the sums of which the variance is made.
+/// Returns the sums from which the variance is computed: `sum_of_squares / count - (sum / count)^2`.
 pub fn variance_sums<T: Pixel>(rows: &RowsRef<'_, T>) -> VarianceSums
     ensures sum { result.sum ≡ sum_of_values T.form.value (row_major rows.now) }
     ensures squares { result.sum_of_squares ≡ sum_of_squares T.form.value (row_major rows.now) }
@@ -73,7 +73,7 @@ pub fn variance_sums<T: Pixel>(rows: &RowsRef<'_, T>) -> VarianceSums
     }
 }
 
-/// Returns how many pixels there are.
+/// Returns the number of pixels.
 pub(crate) fn pixel_count<T>(rows: &RowsRef<'_, T>) -> usize
     ensures value { result ≡ length (row_major rows.now) }
     ensures sizes { result ≡ height_of rows.now * width_of rows.now }

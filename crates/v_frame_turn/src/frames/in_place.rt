@@ -1,4 +1,4 @@
-//! Frames turned where they are: each plane is. Borders stay.
+//! Frames flipped, mirrored or rotated by 180 degrees in place, plane by plane. The padding stays unchanged.
 ghost use Rattle.std.specs.Prelude.{◌≡◌, map, option_map, reverse};
 ghost use Rattle.v_frame.specs.Prelude.{border_and_geometry, table_of, tables_of, KeepsBorders};
 ghost use Rattle.v_frame_turn.specs.Frames.{turned_tables};
@@ -9,7 +9,7 @@ use v_frame::frame::Frame;
 use v_frame::pixel::Pixel;
 use v_frame::plane::Plane;
 
-/// Turns what a frame shows upside down.
+/// Flips each plane of `frame` upside down in place. The padding stays unchanged.
 pub fn flip_vertical_in_place<T: Pixel>(frame: &mut Frame<T>)
     ensures shown { tables_of frame.new ≡ turned_tables reverse (tables_of frame.old) }
     ensures borders { KeepsBorders frame.old frame.new }
@@ -19,7 +19,7 @@ pub fn flip_vertical_in_place<T: Pixel>(frame: &mut Frame<T>)
     flip_vertical_of_chroma(&mut frame.v_plane);
 }
 
-/// Does so for a chroma plane, where there is one.
+/// Flips a chroma plane upside down in place, if the frame has it.
 fn flip_vertical_of_chroma<T: Pixel>(plane: &mut Option<Plane<T>>)
     ensures shown { option_map table_of plane.new ≡ option_map reverse (option_map table_of plane.old) }
     ensures border { option_map border_and_geometry plane.new ≡ option_map border_and_geometry plane.old }
@@ -29,7 +29,7 @@ fn flip_vertical_of_chroma<T: Pixel>(plane: &mut Option<Plane<T>>)
     }
 }
 
-/// Mirrors what a frame shows: each row is turned to its right end.
+/// Mirrors each plane of `frame` left to right in place. The padding stays unchanged.
 pub fn flip_horizontal_in_place<T: Pixel>(frame: &mut Frame<T>)
     ensures shown { tables_of frame.new ≡ turned_tables (map reverse) (tables_of frame.old) }
     ensures borders { KeepsBorders frame.old frame.new }
@@ -39,7 +39,7 @@ pub fn flip_horizontal_in_place<T: Pixel>(frame: &mut Frame<T>)
     flip_horizontal_of_chroma(&mut frame.v_plane);
 }
 
-/// Does so for a chroma plane, where there is one.
+/// Mirrors a chroma plane left to right in place, if the frame has it.
 fn flip_horizontal_of_chroma<T: Pixel>(plane: &mut Option<Plane<T>>)
     ensures shown { option_map table_of plane.new ≡ option_map (map reverse) (option_map table_of plane.old) }
     ensures border { option_map border_and_geometry plane.new ≡ option_map border_and_geometry plane.old }
@@ -49,7 +49,7 @@ fn flip_horizontal_of_chroma<T: Pixel>(plane: &mut Option<Plane<T>>)
     }
 }
 
-/// Turns what a frame shows by 180 degrees.
+/// Rotates each plane of `frame` by 180 degrees in place. The padding stays unchanged.
 pub fn rotate_180_in_place<T: Pixel>(frame: &mut Frame<T>)
     ensures shown { tables_of frame.new ≡ turned_tables rotated_180 (tables_of frame.old) }
     ensures borders { KeepsBorders frame.old frame.new }
@@ -59,7 +59,7 @@ pub fn rotate_180_in_place<T: Pixel>(frame: &mut Frame<T>)
     rotate_180_of_chroma(&mut frame.v_plane);
 }
 
-/// Does so for a chroma plane, where there is one.
+/// Rotates a chroma plane by 180 degrees in place, if the frame has it.
 fn rotate_180_of_chroma<T: Pixel>(plane: &mut Option<Plane<T>>)
     ensures shown { option_map table_of plane.new ≡ option_map rotated_180 (option_map table_of plane.old) }
     ensures border { option_map border_and_geometry plane.new ≡ option_map border_and_geometry plane.old }

@@ -1,4 +1,4 @@
-//! Rows written upside down, from their right ends, or both.
+//! Pictures flipped upside down, mirrored, or rotated by 180 degrees.
 ghost use Rattle.std.specs.Prelude.{◌≡◌, length, map, reverse};
 ghost use Rattle.v_frame.specs.Prelude.{height_of, strided_rows, width_of, KeepsRest, RowsFit};
 ghost use Rattle.v_frame_turn.specs.Turn.{rotated_180};
@@ -8,7 +8,8 @@ use crate::rows::row::{counted, write_row};
 use v_frame::pixel::Pixel;
 use v_frame::plane::RowsRef;
 
-/// Writes what `source` shows upside down, as `np.flipud` does.
+/// Writes `source` upside down into the rows in `buffer`: the last row becomes the first, as with `np.flipud`. `source` has the
+/// same size as the rows.
 pub fn flip_vertical<T: Pixel>(
     source: &RowsRef<'_, T>,
     buffer: &mut [T],
@@ -25,7 +26,8 @@ pub fn flip_vertical<T: Pixel>(
     flip(source, buffer, width, height, stride, true, false);
 }
 
-/// Writes what `source` shows mirrored: each row from its right end, as `np.fliplr` does.
+/// Writes `source` mirrored left to right into the rows in `buffer`: the last pixel of each row becomes the first, as with
+/// `np.fliplr`. `source` has the same size as the rows.
 pub fn flip_horizontal<T: Pixel>(
     source: &RowsRef<'_, T>,
     buffer: &mut [T],
@@ -42,7 +44,7 @@ pub fn flip_horizontal<T: Pixel>(
     flip(source, buffer, width, height, stride, false, true);
 }
 
-/// Writes what `source` shows turned by 180 degrees.
+/// Writes `source` rotated by 180 degrees into the rows in `buffer`. `source` has the same size as the rows.
 pub fn rotate_180<T: Pixel>(
     source: &RowsRef<'_, T>,
     buffer: &mut [T],
@@ -59,8 +61,7 @@ pub fn rotate_180<T: Pixel>(
     flip(source, buffer, width, height, stride, true, true);
 }
 
-/// Writes what `source` shows, its rows from the bottom where `from_bottom` says so, and each from its right end where
-/// `mirrored` does.
+/// Writes `source` into the rows, upside down if `from_bottom` is true and mirrored if `mirrored` is true.
 #[inline(always)]
 #[tactic(auto, using(v_frame_raster::proofs::tables::StridedWrites::row_ends))]
 fn flip<T: Pixel>(

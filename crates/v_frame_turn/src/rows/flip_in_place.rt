@@ -1,4 +1,4 @@
-//! Rows turned upside down, to their right ends, or both, where they are.
+//! Rows of a buffer flipped upside down, mirrored, or rotated by 180 degrees in place.
 ghost use Rattle.std.specs.Prelude.{◌≡◌, length, map, reverse, true};
 ghost use Rattle.v_frame.specs.Prelude.{strided_rows, KeepsRest, RowsFit};
 ghost use Rattle.v_frame_turn.specs.Turn.{rotated_180};
@@ -7,7 +7,7 @@ ghost use Rattle.v_frame_turn.specs.Turning.{flipped};
 use crate::rows::row::{exchange_rows, turn_row};
 use v_frame::pixel::Pixel;
 
-/// Turns the rows upside down, as `np.flipud` does.
+/// Flips the rows in `buffer` upside down in place: the last row becomes the first, as with `np.flipud`.
 pub fn flip_vertical_in_place<T: Pixel>(
     buffer: &mut [T],
     width: usize,
@@ -22,7 +22,7 @@ pub fn flip_vertical_in_place<T: Pixel>(
     turn_upside_down(buffer, width, height, stride, false);
 }
 
-/// Mirrors the rows: each is turned to its right end, as `np.fliplr` does.
+/// Mirrors the rows in `buffer` left to right in place: the last pixel of each row becomes the first, as with `np.fliplr`.
 #[tactic(auto, using(v_frame_raster::proofs::tables::StridedWrites::row_ends))]
 pub fn flip_horizontal_in_place<T: Pixel>(
     buffer: &mut [T],
@@ -41,7 +41,7 @@ pub fn flip_horizontal_in_place<T: Pixel>(
     }
 }
 
-/// Turns the rows by 180 degrees.
+/// Rotates the rows in `buffer` by 180 degrees in place.
 pub fn rotate_180_in_place<T: Pixel>(buffer: &mut [T], width: usize, height: usize, stride: usize)
     requires { RowsFit width height stride (length buffer.old) }
     ensures table { strided_rows width height stride buffer.new
@@ -51,7 +51,7 @@ pub fn rotate_180_in_place<T: Pixel>(buffer: &mut [T], width: usize, height: usi
     turn_upside_down(buffer, width, height, stride, true);
 }
 
-/// Turns the rows upside down, and each to its right end where `mirrored` says so.
+/// Flips the rows in `buffer` upside down in place, and also mirrors them if `mirrored` is true.
 #[inline(always)]
 #[tactic(auto, using(v_frame_raster::proofs::tables::StridedWrites::row_ends))]
 fn turn_upside_down<T: Pixel>(

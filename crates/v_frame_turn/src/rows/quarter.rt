@@ -1,4 +1,4 @@
-//! Rows that become columns: transposed, or turned by a quarter.
+//! Pictures transposed, or rotated by 90 or 270 degrees.
 ghost use Rattle.std.specs.Prelude.{All, ◌≡◌, ◌-◌, ◌<◌, ◌≤◌, ℕ, false, length, true};
 ghost use Rattle.v_frame.specs.Prelude.{height_of, pixel_at, strided_rows, width_of, KeepsRest, RowsFit};
 ghost use Rattle.v_frame_turn.specs.Turn.{rotated_270, rotated_90, transposed};
@@ -8,18 +8,18 @@ use crate::rows::row::counted;
 use v_frame::pixel::Pixel;
 use v_frame::plane::RowsRef;
 
-/// How many rows are written together: so many lines of memory stay in the first cache.
+/// The number of rows that are written together. Their cache lines fit the first-level cache.
 const BLOCK: usize = 64;
 
-/// Which pixel of the source comes first: its row, and its column.
+/// The corner of the source that becomes the top left pixel of the result.
 #[derive(Clone, Copy)]
 struct Corner {
     from_right: bool,
     from_bottom: bool,
 }
 
-/// Writes what `source` shows transposed: its columns become the rows, from the left, as NumPy's `.T` does. So the width
-/// that is written is the source's height, and the height its width.
+/// Writes `source` transposed into the rows in `buffer`: the pixel at column `x` of row `y` moves to column `y` of row `x`, as
+/// with NumPy's `.T`. `width` equals the height of `source`, and `height` equals its width.
 pub fn transpose<T: Pixel>(
     source: &RowsRef<'_, T>,
     buffer: &mut [T],
@@ -42,8 +42,8 @@ pub fn transpose<T: Pixel>(
     turn(source, buffer, width, height, stride, corner);
 }
 
-/// Writes what `source` shows turned by 90 degrees clockwise: its columns become the rows, from the left, each from the
-/// bottom, as `np.rot90(_, -1)` does. So the width that is written is the source's height, and the height its width.
+/// Writes `source` rotated by 90 degrees clockwise into the rows in `buffer`, as with `np.rot90(_, -1)`. `width` equals the
+/// height of `source`, and `height` equals its width.
 pub fn rotate_90<T: Pixel>(
     source: &RowsRef<'_, T>,
     buffer: &mut [T],
@@ -67,8 +67,8 @@ pub fn rotate_90<T: Pixel>(
     turn(source, buffer, width, height, stride, corner);
 }
 
-/// Writes what `source` shows turned by 270 degrees clockwise, which is 90 degrees counterclockwise: its columns become the
-/// rows, from the right, as `np.rot90` does. So the width that is written is the source's height, and the height its width.
+/// Writes `source` rotated by 270 degrees clockwise, that is 90 degrees counterclockwise, into the rows in `buffer`, as with
+/// `np.rot90`. `width` equals the height of `source`, and `height` equals its width.
 pub fn rotate_270<T: Pixel>(
     source: &RowsRef<'_, T>,
     buffer: &mut [T],
@@ -92,7 +92,7 @@ pub fn rotate_270<T: Pixel>(
     turn(source, buffer, width, height, stride, corner);
 }
 
-/// Writes the columns of `source` as rows, block after block.
+/// Writes the columns of `source` as rows, in blocks of rows.
 fn turn<T: Pixel>(
     source: &RowsRef<'_, T>,
     buffer: &mut [T],
@@ -118,7 +118,7 @@ fn turn<T: Pixel>(
     }
 }
 
-/// Writes the rows from one on and above another, two columns at a time.
+/// Writes the rows `from..to`, two columns at a time.
 fn turn_block<T: Pixel>(
     source: &RowsRef<'_, T>,
     buffer: &mut [T],
@@ -141,7 +141,7 @@ fn turn_block<T: Pixel>(
     ensures rest { KeepsRest width height stride buffer.old buffer.new }
 {
     for pair in 0..(width - 1) / 2 + 1 {
-        // The last column of an odd width is written twice.
+        // For an odd width, the last column is written twice.
         let x = 2 * pair;
         let next = (x + 1).min(width - 1);
         turn_pair(
@@ -150,8 +150,8 @@ fn turn_block<T: Pixel>(
     }
 }
 
-/// Writes two columns, in the rows from one on and above another: a pixel of each is read and written before the next, so
-/// that both rows of the source and the lines that are written stay in the first cache.
+/// Writes the columns `x` and `next` of the rows `from..to`. It writes a pixel of both columns before it continues with the
+/// next row, so that two rows of the source and the cache lines of the target stay in the first-level cache.
 #[tactic(auto, using(crate::proofs::Entries::entry_within))]
 fn turn_pair<T: Pixel>(
     source: &RowsRef<'_, T>,

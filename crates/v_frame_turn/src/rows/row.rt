@@ -1,10 +1,10 @@
-//! One row mirrored, or exchanged with another one.
+//! One row mirrored, or swapped with another row.
 //!
-//! The loops from both ends are kept out of line: in a loop over rows from both ends the compiler makes no packed code of them.
+//! The loops that run from both ends are never inlined, because the compiler does not vectorize them inside a loop over rows.
 ghost use Rattle.std.specs.Prelude.{◌≡◌, ◌<◌, length, reverse};
 ghost use Rattle.v_frame_turn.specs.Turning.{index_from, list_from};
 
-/// Returns an index, counted from the end where `from_end` says so.
+/// Returns `index`, or `count - 1 - index` if `from_end` is true.
 #[inline(always)]
 pub(super) fn counted(from_end: bool, count: usize, index: usize) -> usize
     requires { index < count }
@@ -14,7 +14,7 @@ pub(super) fn counted(from_end: bool, count: usize, index: usize) -> usize
     if from_end { count - 1 - index } else { index }
 }
 
-/// Writes a row, from its right end where `mirrored` says so.
+/// Copies `source` to `target`, mirrored if `mirrored` is true.
 #[inline(always)]
 pub(super) fn write_row<T: Copy>(target: &mut [T], source: &[T], mirrored: bool)
     requires { length source.now ≡ length target.old }
@@ -27,7 +27,7 @@ pub(super) fn write_row<T: Copy>(target: &mut [T], source: &[T], mirrored: bool)
     }
 }
 
-/// Exchanges two rows, each from its right end where `mirrored` says so.
+/// Swaps two rows, and mirrors both if `mirrored` is true.
 #[inline(always)]
 pub(super) fn exchange_rows<T: Copy>(a: &mut [T], b: &mut [T], mirrored: bool)
     requires { length b.old ≡ length a.old }
@@ -41,7 +41,7 @@ pub(super) fn exchange_rows<T: Copy>(a: &mut [T], b: &mut [T], mirrored: bool)
     }
 }
 
-/// Turns a row to its right end where `mirrored` says so.
+/// Mirrors a row in place if `mirrored` is true.
 #[inline(always)]
 pub(super) fn turn_row<T: Copy>(row: &mut [T], mirrored: bool)
     ensures { row.new ≡ list_from mirrored row.old }
@@ -51,7 +51,7 @@ pub(super) fn turn_row<T: Copy>(row: &mut [T], mirrored: bool)
     }
 }
 
-/// Writes a row from its right end.
+/// Copies `source` to `target`, mirrored.
 #[inline(never)]
 #[tactic(auto, using(v_frame_raster::proofs::tables::ListItems::is_reverse))]
 fn write_reversed<T: Copy>(target: &mut [T], source: &[T])
@@ -64,7 +64,7 @@ fn write_reversed<T: Copy>(target: &mut [T], source: &[T])
     }
 }
 
-/// Exchanges two rows.
+/// Swaps two rows.
 #[tactic(auto, using(v_frame_raster::proofs::tables::Lists::same_by_slice_get))]
 fn exchange<T: Copy>(a: &mut [T], b: &mut [T])
     requires { length b.old ≡ length a.old }
@@ -78,7 +78,7 @@ fn exchange<T: Copy>(a: &mut [T], b: &mut [T])
     }
 }
 
-/// Exchanges two rows, each from its right end.
+/// Swaps two rows and mirrors both.
 #[inline(never)]
 #[tactic(auto, using(v_frame_raster::proofs::tables::ListItems::is_reverse))]
 fn exchange_reversed<T: Copy>(a: &mut [T], b: &mut [T])

@@ -1,4 +1,4 @@
-//! Rows turned in a way that is a value.
+//! Pictures transformed by an operation that is a value.
 ghost use Rattle.std.specs.Prelude.{◌≡◌, length};
 ghost use Rattle.v_frame.specs.Prelude.{height_of, strided_rows, width_of, KeepsRest, RowsFit};
 ghost use Rattle.v_frame_turn.specs.Frames.{exchanges, turned, SizeFits};
@@ -9,8 +9,8 @@ use crate::turns::Turn;
 use v_frame::pixel::Pixel;
 use v_frame::plane::RowsRef;
 
-/// Makes the rows show what `source` shows, turned in one of six ways. They have its size, exchanged where
-/// [`exchanges_sizes`](crate::Turn::exchanges_sizes) says so.
+/// Writes `source`, transformed by `turn`, into the rows in `buffer`. The rows have the size of `source`, with width and height
+/// exchanged if [`exchanges_sizes`](crate::Turn::exchanges_sizes) returns true.
 pub fn turn<T: Pixel>(
     source: &RowsRef<'_, T>,
     buffer: &mut [T],

@@ -1,4 +1,4 @@
--- One position, one more column, and all.
+-- The first position, and one more column in each loop step. After the last step, all columns are compared.
 use Rattle.std.proofs.Common.{◌≡◌, ◌+◌, ◌-◌, arith}
 use Rattle.v_frame.specs.Prelude.{table_of}
 use Rattle.example_conversions.specs.MotionSearch.{cost_at}

@@ -1,4 +1,4 @@
--- The match is the first with the least cost of the columns so far.
+-- The match is the first one with the smallest cost in the columns processed so far.
 use Rattle.std.proofs.Common.{◌-◌}
 use Rattle.v_frame.specs.Prelude.{table_of}
 use Rattle.example_conversions.specs.MotionSearch.{IsFirstLeast, cost_at}

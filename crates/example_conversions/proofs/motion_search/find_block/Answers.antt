@@ -1,4 +1,4 @@
--- One row, one more row, and all.
+-- The first row, and one more row in each loop step. After the last step, all rows are compared.
 use Rattle.std.proofs.Common.{◌≡◌, ◌+◌, ◌-◌, arith}
 use Rattle.v_frame.specs.Prelude.{table_of}
 use Rattle.example_conversions.specs.MotionSearch.{cost_at}

@@ -1,4 +1,4 @@
--- Both turns, one after the other, by the law.
+-- Both rotations in a row, by the law.
 use Rattle.std.proofs.Common.{◌∙◌, ap}
 use Rattle.v_frame.specs.Prelude.{table_of}
 use Rattle.v_frame_turn.specs.Prelude.{rotated_90}

@@ -1,4 +1,4 @@
--- The means of the values are those of the pixels.
+-- The means of the values are the values of the means.
 use Rattle.std.proofs.Common.{◌∙◌, ap, map}
 use Rattle.v_frame.specs.Prelude.{halved, one_byte}
 use Rattle.v_frame_convert.proofs.PairMeans.{means_of_values}

@@ -1,4 +1,4 @@
--- Sixteen more means, and all.
+-- The loop step writes sixteen more means. After the last step, all are written.
 use Rattle.std.proofs.Common.{◌≡◌, ◌+◌, ◌-◌, ◌*◌, ◌≤◌, length, drop, arith, length-take-le, length-drop}
 use Rattle.std.proofs.lemmas.List.{take_all}
 use Rattle.v_frame_convert.proofs.PairMeans.{more_means}

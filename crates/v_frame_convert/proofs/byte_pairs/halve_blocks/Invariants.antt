@@ -1,4 +1,4 @@
--- The pixels so far are the means of the pairs so far.
+-- The pixels processed so far are the means of the pairs processed so far.
 use Rattle.std.proofs.Common.{◌*◌}
 use Rattle.v_frame_raster.proofs.HalfRows.{HalvedUpTo}
 use Rattle.v_frame_convert.proofs.byte_pairs.halve_blocks.Given as goal

@@ -1,4 +1,4 @@
--- The lanes are the means.
+-- The lanes are the means of the pairs.
 use Rattle.std.proofs.Common.{◌<◌, ◌∙◌, ap, arith}
 use Rattle.std.proofs.lemmas.Grind.{common_steps}
 use Rattle.std.proofs.lemmas.List.{take_all}

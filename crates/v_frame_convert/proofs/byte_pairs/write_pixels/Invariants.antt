@@ -1,4 +1,4 @@
--- The pixels so far are those of the bytes so far.
+-- The pixels processed so far are the pixels of the bytes processed so far.
 use Rattle.std.proofs.Common.{◌≡◌, map, take}
 use Rattle.v_frame_convert.proofs.byte_pairs.write_pixels.Given as goal
 

@@ -1,4 +1,4 @@
--- The bytes so far are the values so far.
+-- The bytes processed so far are the values processed so far.
 use Rattle.std.proofs.Common.{◌≡◌, map, take}
 use Rattle.v_frame_convert.proofs.byte_pairs.write_values.Given as goal
 

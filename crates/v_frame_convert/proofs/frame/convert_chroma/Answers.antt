@@ -1,4 +1,4 @@
--- The plane that is there shows the other one, or no color.
+-- The target plane holds the converted source plane, or the neutral value.
 use Rattle.std.proofs.Common.{◌≡◌, ◌<◌, length, replicate, Some, sym, ◌∙◌, ap, arith}
 use Rattle.std.proofs.lemmas.List.{length-replicate}
 use Rattle.v_frame.specs.Prelude.{table_of}

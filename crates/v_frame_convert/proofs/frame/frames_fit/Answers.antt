@@ -1,4 +1,4 @@
--- Both tests hold, or the first one that fails tells why.
+-- Both tests succeed, or the first failing test shows that the frames do not fit.
 use Rattle.v_frame_convert.proofs.frame.frames_fit.Goals as goal
 
 pub returns-then-planes_fit : goal.returns-then-planes_fit

@@ -1,4 +1,4 @@
--- The middle of a depth is one of its values.
+-- The neutral value of a depth is one of its values.
 use Rattle.std.proofs.Common.{arith}
 use Rattle.v_frame_convert.proofs.Depths.{middle_within}
 use Rattle.v_frame_convert.proofs.frame.middle.Goals as goal

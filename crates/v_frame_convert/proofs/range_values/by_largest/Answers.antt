@@ -1,4 +1,4 @@
--- The base is one above the divisor.
+-- The base of the digits is the divisor plus 1.
 use Rattle.std.proofs.Common.{◌≡◌, ◌+◌, ◌*◌, ◌/◌, ◌^◌, ◌<◌, ◌≤◌, arith, subst, sym}
 use Rattle.std.proofs.Math.Nat.{pow-le-pow_right}
 use Rattle.v_frame_convert.specs.Depth.{largest_value}

@@ -1,4 +1,4 @@
--- The quotient is taken in two steps, and the half is added before the difference.
+-- The quotient is computed in two steps, and the half is added before the subtraction.
 use Rattle.std.proofs.Common.{◌*◌, ◌<◌, ◌≤◌, min, ap, arith, ◌∙◌}
 use Rattle.v_frame_convert.specs.Depth.{largest_value}
 use Rattle.v_frame_convert.specs.Range.{unit_of}

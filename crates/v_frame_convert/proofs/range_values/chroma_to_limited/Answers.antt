@@ -1,4 +1,4 @@
--- The sum has two digits.
+-- The sum has two digits in base `2^depth`.
 use Rattle.std.proofs.Common.{◌*◌, ◌/◌, ◌<◌, ◌≤◌, arith, ap, ◌∙◌, min}
 use Rattle.std.proofs.Math.Nat.{div-lt_iff_lt-mul}
 use Rattle.v_frame_convert.specs.Depth.{largest_value}

@@ -1,4 +1,4 @@
--- 2 ^ depth is 256 units.
+-- 2 ^ depth equals 256 units.
 use Rattle.std.proofs.Common.{◌≡◌, ◌+◌, ◌-◌, ◌*◌, ◌%◌, ◌^◌, refl}
 use Rattle.v_frame_convert.specs.Range.{unit_of}
 use Rattle.v_frame_convert.proofs.Depths.{each_depth}

@@ -1,4 +1,4 @@
--- The quotient is taken in two steps.
+-- The quotient is computed in two steps.
 use Rattle.std.proofs.Common.{◌+◌, ◌-◌, ◌*◌, ◌/◌, min, ap, ◌∙◌}
 use Rattle.v_frame_convert.specs.Depth.{largest_value}
 use Rattle.v_frame_convert.specs.Range.{unit_of}

@@ -1,4 +1,4 @@
--- The sum has two digits.
+-- The sum has two digits in base `2^depth`.
 use Rattle.std.proofs.Common.{◌≤◌, arith}
 use Rattle.v_frame_convert.specs.Depth.{largest_value}
 use Rattle.v_frame_convert.proofs.Ranges.{luma_digits}

@@ -1,4 +1,4 @@
--- The rows that are written are those of the target.
+-- The rows that are written are the visible rows of the target.
 use Rattle.v_frame_convert.proofs.scale.resample.Goals as goal
 
 pub returns-clause-table : goal.returns-clause-table

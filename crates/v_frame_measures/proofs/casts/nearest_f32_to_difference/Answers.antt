@@ -1,4 +1,4 @@
--- Below zero, the difference is the other one negated.
+-- A negative difference is the negated difference of the swapped numbers.
 use Rattle.std.proofs.Common.{ap, ◌∙◌}
 use Rattle.std.specs.Float.Ieee.{binary32, neg}
 use Rattle.v_frame_measures.proofs.Halves.{negated_difference}

@@ -1,4 +1,4 @@
--- The sum of the two halves is the number, rounded once.
+-- The sum of the two parts is the number, rounded once.
 use Rattle.std.proofs.Common.{lit≤}
 use Rattle.std.specs.Float.Ieee.{binary64}
 use Rattle.core.proofs.num.Nearest.{halves_masked}

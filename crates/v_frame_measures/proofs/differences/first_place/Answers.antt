@@ -1,4 +1,4 @@
--- One more place has another difference, and one of them has it.
+-- The loop step tests one more index. At the last index the difference must have been found.
 use Rattle.std.proofs.Common.{arith}
 use Rattle.std.proofs.lemmas.Option.{slice_get_within}
 use Rattle.v_frame_measures.proofs.Differing.{read_pair, not_here}

@@ -1,4 +1,4 @@
--- No place so far has the difference.
+-- No index processed so far has the difference.
 use Rattle.std.proofs.Common.{ℕ, ◌<◌}
 use Rattle.v_frame_measures.specs.Differences.{DifferAt}
 use Rattle.v_frame_measures.proofs.differences.first_place.Given as goal

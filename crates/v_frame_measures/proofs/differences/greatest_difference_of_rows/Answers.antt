@@ -1,4 +1,4 @@
--- One more row, which has a greater difference or not.
+-- The loop step handles one more row, which may have a larger difference.
 use Rattle.std.proofs.Common.{arith}
 use Rattle.v_frame_measures.proofs.Differing.{first_row, next_row_greater, next_row_less, in_all_rows}
 use Rattle.v_frame_measures.proofs.differences.greatest_difference_of_rows.Goals as goal

@@ -1,4 +1,4 @@
--- In the rows so far no difference is greater, and the place is the first of those that have it.
+-- No difference in the rows processed so far is larger, and the position is the first that has it.
 use Rattle.v_frame_measures.proofs.Differing.{GreatestAbove}
 use Rattle.v_frame_measures.proofs.differences.greatest_difference_of_rows.Given as goal
 

@@ -1,4 +1,4 @@
--- One more pair, which has the greatest difference or not. And all.
+-- The loop step handles one more pair, which may have a larger difference. After the last step, all pairs are handled.
 use Rattle.std.proofs.Common.{arith}
 use Rattle.v_frame_measures.proofs.Differing.{read_pair, none_below, one_more}
 use Rattle.v_frame_measures.proofs.differences.greatest_of_rows.Goals as goal

@@ -1,4 +1,4 @@
--- No difference so far is greater, and it is one of them.
+-- No difference so far is larger, and the number is one of the differences.
 use Rattle.v_frame_measures.specs.Differences.{DifferNoMore, DifferSomewhere}
 use Rattle.v_frame_measures.proofs.differences.greatest_of_rows.Given as goal
 

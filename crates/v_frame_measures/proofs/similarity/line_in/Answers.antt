@@ -1,4 +1,5 @@
--- One more window: its left half is the right half of the window before. And all.
+-- The loop step adds one more window, whose left half is the right half of the previous window. After the last step,
+-- all windows are added.
 use Rattle.std.proofs.Common.{◌≡◌, ◌+◌, ◌*◌, ◌≤◌, ap, ◌∙◌, arith}
 use Rattle.v_frame.specs.Prelude.{width_of}
 use Rattle.v_frame_measures.specs.Ssim.{similarity_of, window_at, windows_along}

@@ -1,4 +1,4 @@
--- The windows so far are added, and the columns of the next one's left half are summed.
+-- The windows processed so far are added, and the columns of the left half of the next window are summed.
 use Rattle.std.proofs.Common.{◌≡◌, ◌*◌, map}
 use Rattle.std.specs.List.{range_with_len}
 use Rattle.v_frame_measures.specs.PixelSums.{sums_of_rectangle, AreSumsOver}

@@ -1,4 +1,4 @@
--- One more line of a band, and of the rest.
+-- The loop steps: one more line of a band, and one more line of the rest.
 use Rattle.std.proofs.Common.{◌≡◌, ◌+◌, ◌*◌, ap, ◌∙◌, arith}
 use Rattle.std.specs.Float.Ieee.{binary64}
 use Rattle.std.proofs.lemmas.Nat.{le_or_l, le_or_r}

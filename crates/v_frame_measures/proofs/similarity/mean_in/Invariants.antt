@@ -1,4 +1,4 @@
--- The lines so far are added.
+-- The lines processed so far are added.
 use Rattle.std.proofs.Common.{◌≡◌, ◌+◌, ◌*◌, map, min}
 use Rattle.std.specs.List.{range_with_len}
 use Rattle.std.specs.Float.Ieee.{binary64}

@@ -1,4 +1,4 @@
--- What is extended over the whole buffer continues the picture, whose own pixels are the nearest to themselves.
+-- The whole buffer is extended from the picture, and the nearest visible pixel to a visible pixel is the pixel itself.
 use Rattle.std.proofs.Common.{◌≡◌, ◌+◌, arith}
 use Rattle.v_frame.specs.Prelude.{raster}
 use Rattle.v_frame_ops.specs.Border.{nearest}

@@ -1,4 +1,4 @@
--- A row that is repeated was extended before.
+-- The rows are extended first and then repeated.
 use Rattle.std.proofs.Common.{◌≡◌, ap, option_and_then, slice_get, ◌+◌, ◌∙◌, arith}
 use Rattle.v_frame.specs.Prelude.{Geometry, stride_of, alloc_height_of}
 use Rattle.v_frame_ops.specs.Border.{nearest}

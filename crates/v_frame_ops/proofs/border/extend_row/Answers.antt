@@ -1,4 +1,4 @@
--- A pixel is in front of those that stay, among them, or after them.
+-- A pixel is before the picture, inside it, or after it.
 use Rattle.std.proofs.Common.{◌≡◌, ◌+◌, ◌-◌, refl, sym, ◌∙◌, ⊎_elim, arith}
 use Rattle.std.proofs.lemmas.Bool.{cases_lt}
 use Rattle.std.proofs.lemmas.Option.{slice_get_read}

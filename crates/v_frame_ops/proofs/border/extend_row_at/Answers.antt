@@ -1,4 +1,4 @@
--- The buffer keeps its length, and the row that is written is the extended one.
+-- The buffer keeps its length, and the row that is written is the extended row.
 use Rattle.std.proofs.Common.{◌≡◌, ◌+◌, slice_get, arith}
 use Rattle.v_frame.specs.Prelude.{pixel_at, raster, table_of}
 use Rattle.v_frame_ops.specs.Border.{nearest}

@@ -1,4 +1,4 @@
--- The buffer keeps its length, and each row that is extended keeps the others.
+-- The buffer keeps its length, and extending a row leaves the other rows unchanged.
 use Rattle.std.proofs.Common.{◌+◌, ◌∙◌, arith}
 use Rattle.v_frame.specs.Prelude.{raster, table_of}
 use Rattle.v_frame_ops.specs.Border.{nearest}

@@ -1,4 +1,4 @@
--- The 16 pixels are a part of the row.
+-- The 16 pixels are a slice of the row.
 use Rattle.std.proofs.Common.{◌+◌, arith}
 use Rattle.v_frame_raster.proofs.tables.Parts.{part_before, part_filled, part_behind}
 use Rattle.v_frame_ops.proofs.border.fill_block.Goals as goal

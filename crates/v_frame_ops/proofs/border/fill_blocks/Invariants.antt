@@ -1,4 +1,4 @@
--- The blocks so far are filled, and the others are as they were.
+-- The blocks processed so far are filled, and the others are unchanged.
 use Rattle.std.proofs.Common.{ℕ, ◌≡◌, ◌+◌, ◌*◌, ◌<◌, ◌≤◌, Some, length, slice_get}
 use Rattle.v_frame_ops.proofs.border.fill_blocks.Given as goal
 

@@ -1,4 +1,4 @@
--- Few pixels are filled as a part of the row.
+-- A short part is filled as a slice of the row.
 use Rattle.v_frame_raster.proofs.tables.Parts.{part_before, part_filled, part_behind}
 use Rattle.v_frame_ops.proofs.border.fill_part.Goals as goal
 

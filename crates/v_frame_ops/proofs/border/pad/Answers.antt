@@ -1,4 +1,4 @@
--- What holds of the lent buffer holds of the plane that gets it back.
+-- A fact about the borrowed buffer holds for the plane after the borrow ends.
 use Rattle.std.proofs.Common.{length, ap, ◌∙◌}
 use Rattle.v_frame_raster.proofs.tables.Lists.{refill_same}
 use Rattle.v_frame_ops.proofs.border.pad.Goals as goal

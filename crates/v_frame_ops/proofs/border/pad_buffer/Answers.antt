@@ -1,4 +1,4 @@
--- Both tables have one size and the same pixels.
+-- Both tables have the same size and the same pixels.
 use Rattle.std.proofs.Common.{◌≡◌, length, sym, ◌∙◌, arith}
 use Rattle.v_frame.specs.Prelude.{Raster, raster, alloc_size_of, table_of}
 use Rattle.v_frame_raster.proofs.tables.Pictures.{length-shown}

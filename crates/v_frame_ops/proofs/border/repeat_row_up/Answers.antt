@@ -1,4 +1,4 @@
--- The buffer keeps its length, and each row that is written is the copied one.
+-- The buffer keeps its length, and the row that is written is a copy.
 use Rattle.std.proofs.Common.{◌+◌, refl, ◌∙◌, arith}
 use Rattle.v_frame.specs.Prelude.{raster, table_of}
 use Rattle.v_frame_ops.proofs.Changed.{CopiedBelow, with_length_kept, set_same, one_more_copied}

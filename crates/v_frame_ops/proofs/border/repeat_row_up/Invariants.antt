@@ -1,4 +1,4 @@
--- The rows so far are copies, and the others are as they were.
+-- The rows processed so far are copies, and the others are unchanged.
 use Rattle.v_frame.specs.Prelude.{raster, table_of}
 use Rattle.v_frame_ops.proofs.Changed.{CopiedBelow}
 use Rattle.v_frame_ops.proofs.border.repeat_row_up.Given as goal

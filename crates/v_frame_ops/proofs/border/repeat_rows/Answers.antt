@@ -1,4 +1,4 @@
--- A row is above those that stay, among them, or below them.
+-- A row is above the picture, inside it, or below it.
 use Rattle.std.proofs.Common.{◌≡◌, ◌+◌, ◌-◌, refl, ◌∙◌, ⊎_elim, arith}
 use Rattle.std.proofs.lemmas.Bool.{cases_lt}
 use Rattle.v_frame_ops.specs.Border.{nearest}

@@ -1,4 +1,4 @@
--- The rows that are combined are those of the planes.
+-- The rows that are combined are the visible rows of the planes.
 use Rattle.v_frame_ops.proofs.change.combine_pixels.Goals as goal
 
 pub returns-clause-pixels : goal.returns-clause-pixels

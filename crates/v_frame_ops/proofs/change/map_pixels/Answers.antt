@@ -1,4 +1,4 @@
--- The rows that are changed are those of the plane.
+-- The rows that are changed are the visible rows of the plane.
 use Rattle.std.proofs.Common.{ap, ◌∙◌}
 use Rattle.v_frame_ops.specs.Change.{mapped}
 use Rattle.v_frame_ops.proofs.change.map_pixels.Goals as goal

@@ -1,4 +1,4 @@
--- The rows that are written are those of the target.
+-- The rows that are written are the visible rows of the target.
 use Rattle.std.proofs.Common.{ap, ◌∙◌, arith}
 use Rattle.std.proofs.lemmas.Int.{ints}
 use Rattle.v_frame.specs.Prelude.{pixel_at}

@@ -1,4 +1,4 @@
--- The results are those of a function, at the largest value of the depth.
+-- The closure computes the amplified difference with the largest value of the depth.
 use Rattle.v_frame_ops.specs.Compose.{difference_of}
 use Rattle.v_frame_ops.proofs.compose.difference.Goals as goal
 

@@ -1,4 +1,4 @@
--- A rectangle takes of some rows some pixels.
+-- A rectangle has some of the rows, and some of the pixels of each row.
 use Rattle.v_frame_ops.proofs.Tables.{rectangle_holds}
 use Rattle.v_frame_ops.proofs.laws.rectangles_hold_pixels.Goals as goal
 

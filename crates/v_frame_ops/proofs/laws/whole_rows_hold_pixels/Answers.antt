@@ -1,4 +1,4 @@
--- What a plane shows is a rectangle of the rows of its whole buffer.
+-- The visible rows of a plane are a rectangle of the rows of its whole buffer.
 use Rattle.std.proofs.Common.{◌∙◌, ap}
 use Rattle.v_frame.specs.Prelude.{pixel_at, whole_rows}
 use Rattle.v_frame_ops.proofs.laws.whole_rows_hold_pixels.Goals as goal

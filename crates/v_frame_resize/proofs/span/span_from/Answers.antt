@@ -1,4 +1,4 @@
--- The pixel in which a span begins is one of the source.
+-- The pixel in which a span begins is a pixel of the source.
 use Rattle.std.proofs.Common.{◌+◌, ◌≤◌, arith}
 use Rattle.std.proofs.Math.Nat.{mul-le-mul_right}
 use Rattle.v_frame_resize.proofs.Sums.{first_inside}

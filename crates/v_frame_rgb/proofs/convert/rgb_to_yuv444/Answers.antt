@@ -1,4 +1,4 @@
--- The rows of chroma that are written are those of their planes, which have the size of the luma.
+-- The chroma rows that are written are the visible rows of their planes, which have the size of the luma plane.
 use Rattle.std.proofs.Common.{◌≡◌, sym, ◌∙◌}
 use Rattle.v_frame_rgb.proofs.convert.rgb_to_yuv444.Goals as goal
 

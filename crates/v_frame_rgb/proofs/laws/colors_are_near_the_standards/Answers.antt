@@ -1,4 +1,4 @@
--- Each matrix in turn.
+-- The proof treats each matrix separately.
 use Rattle.v_frame_rgb.proofs.Distances.{red_near, green_near, blue_near}
 use Rattle.v_frame_rgb.proofs.laws.colors_are_near_the_standards.Goals as goal
 

@@ -1,4 +1,4 @@
--- Each matrix in turn.
+-- The proof treats each matrix separately.
 use Rattle.v_frame_rgb.proofs.SampleDistances.{luma_near, chroma_u_near, chroma_v_near}
 use Rattle.v_frame_rgb.proofs.laws.samples_are_near_the_standards.Goals as goal
 

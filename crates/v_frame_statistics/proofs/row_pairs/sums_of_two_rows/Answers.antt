@@ -1,4 +1,4 @@
--- One more block, and the rest of the rows.
+-- The loop step adds one more block. After the loop, the rest of the rows is added.
 use Rattle.std.proofs.Common.{◌≡◌, ◌+◌, ◌-◌, ◌*◌, ◌/◌, length, arith}
 use Rattle.v_frame_statistics.proofs.PairSteps.{pair_block_summed, pair_rest_summed}
 use Rattle.v_frame_statistics.proofs.SumSteps.{block_summed, rest_summed}

@@ -1,4 +1,4 @@
--- One more pixel of each block, and all.
+-- The loop step adds one more pixel of each block. After the last step, the sums are complete.
 use Rattle.std.proofs.Common.{arith, ◌∙◌}
 use Rattle.v_frame_statistics.proofs.PairSteps.{pair_summed, all_pairs_summed}
 use Rattle.v_frame_statistics.proofs.SumSteps.{item_summed, all_summed}

@@ -1,4 +1,4 @@
--- The pixels so far are summed.
+-- The pixels processed so far are summed.
 use Rattle.std.proofs.Common.{◌*◌}
 use Rattle.std.specs.Prelude.{zip}
 use Rattle.v_frame_statistics.proofs.SumSteps.{SummedBefore, HalvesSummedBefore}

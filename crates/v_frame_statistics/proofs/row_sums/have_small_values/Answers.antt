@@ -1,4 +1,4 @@
--- One more value, and all.
+-- The loop step tests one more value. After the last step, all values are tested.
 use Rattle.std.proofs.Common.{◌≡◌, ◌<◌, inl, inr, ap, sym, arith, get_or, ◌∙◌, rules}
 use Rattle.std.proofs.lemmas.Bool.{cases_lt}
 use Rattle.std.proofs.lemmas.Bool.Decides.{nat_tests}

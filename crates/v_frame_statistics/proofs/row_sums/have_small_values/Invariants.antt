@@ -1,4 +1,4 @@
--- The number is the least one that no value so far is above.
+-- The number is the smallest upper bound of the values processed so far.
 use Rattle.std.proofs.Common.{ℕ, ◌<◌, ◌≤◌, get_or}
 use Rattle.v_frame_statistics.proofs.row_sums.have_small_values.Given as goal
 

@@ -1,4 +1,4 @@
--- One more pixel, and all.
+-- The loop step handles one more pixel. After the last step, all pixels are handled.
 use Rattle.std.proofs.Common.{arith, ◌∙◌}
 use Rattle.v_frame_statistics.proofs.SumSteps.{item_summed, all_summed, item_halves_summed, all_halves_summed}
 use Rattle.v_frame_statistics.proofs.row_sums.sums_of_block.Goals as goal

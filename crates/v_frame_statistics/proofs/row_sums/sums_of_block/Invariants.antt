@@ -1,4 +1,4 @@
--- The pixels so far are summed.
+-- The pixels processed so far are summed.
 use Rattle.std.proofs.Common.{◌*◌}
 use Rattle.v_frame_statistics.proofs.SumSteps.{SummedBefore, HalvesSummedBefore}
 use Rattle.v_frame_statistics.proofs.row_sums.sums_of_block.Given as goal

@@ -1,4 +1,4 @@
--- One more block, and the rest of the row.
+-- The loop step handles one more block. After the loop, the rest of the row is handled.
 use Rattle.std.proofs.Common.{◌≡◌, ◌+◌, ◌-◌, ◌*◌, ◌/◌, length, arith}
 use Rattle.v_frame_statistics.proofs.SumSteps.{block_summed, rest_summed}
 use Rattle.v_frame_statistics.proofs.row_sums.sums_of_row.Goals as goal

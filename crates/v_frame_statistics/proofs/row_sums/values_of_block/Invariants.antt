@@ -1,4 +1,4 @@
--- The pixels so far are summed.
+-- The pixels processed so far are summed.
 use Rattle.std.proofs.Common.{◌≡◌, ◌*◌, ◌≤◌, take}
 use Rattle.v_frame_statistics.specs.Sums.{sum_of_values}
 use Rattle.v_frame_statistics.proofs.row_sums.values_of_block.Given as goal

@@ -1,4 +1,4 @@
--- The pixels of the blocks so far are summed.
+-- The pixels of the blocks processed so far are summed.
 use Rattle.std.proofs.Common.{◌*◌}
 use Rattle.v_frame_statistics.proofs.SumSteps.{SummedBefore}
 use Rattle.v_frame_statistics.proofs.row_sums.values_of_row.Given as goal

@@ -1,4 +1,4 @@
--- Lists reversed twice.
+-- A list that is reversed twice is unchanged.
 use Rattle.std.proofs.Common.{reverse}
 use Rattle.std.proofs.lemmas.List.{reverse-reverse}
 use Rattle.v_frame_raster.proofs.tables.ListItems.{map-reverse}

@@ -1,4 +1,4 @@
--- Both flips can be exchanged.
+-- The two flips commute.
 use Rattle.std.proofs.Common.{reverse, sym}
 use Rattle.v_frame_raster.proofs.tables.ListItems.{map-reverse}
 use Rattle.v_frame_turn.proofs.Quarters.{half_twice}

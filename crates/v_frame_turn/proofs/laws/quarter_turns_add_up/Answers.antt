@@ -1,4 +1,4 @@
--- Quarter turns are flips and transpositions.
+-- A rotation by 90 degrees is a flip and a transposition.
 use Rattle.v_frame_turn.proofs.Quarters.{four_quarters, quarter_after_three, quarter_twice, three_quarters}
 use Rattle.v_frame_turn.proofs.laws.quarter_turns_add_up.Goals as goal
 

@@ -1,4 +1,4 @@
--- Flips and transpositions can be exchanged.
+-- A flip and a transposition can be swapped.
 use Rattle.std.proofs.Common.{sym}
 use Rattle.v_frame_turn.proofs.Quarters.{mirrored_first, transposed_twice, upside_down_first}
 use Rattle.v_frame_turn.proofs.laws.transpositions_undo_themselves.Goals as goal

@@ -1,4 +1,4 @@
--- Pixels of reversed lists and of columns.
+-- The pixels of reversed lists and of columns.
 use Rattle.v_frame_turn.proofs.Quarters.{pixel_rotated_180, pixel_rotated_270, pixel_rotated_90, pixel_transposed}
 use Rattle.v_frame_turn.proofs.laws.turned_pixels_come_from.Goals as goal
 

@@ -1,4 +1,4 @@
--- As many columns as rows before.
+-- A transposed table has as many rows as the table had columns.
 use Rattle.v_frame_turn.proofs.Quarters.{size_mirrored, size_reversed, size_rotated_180, size_rotated_270}
 use Rattle.v_frame_turn.proofs.Quarters.{size_rotated_90, size_transposed}
 use Rattle.v_frame_turn.proofs.laws.turned_tables_have_sizes.Goals as goal

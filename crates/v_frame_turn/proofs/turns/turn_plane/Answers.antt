@@ -1,4 +1,4 @@
--- The sizes that are shown are those of the planes.
+-- The sizes of the visible rows are the sizes of the planes.
 use Rattle.v_frame_turn.proofs.turns.turn_plane.Goals as goal
 
 pub turn-requires-clause-size : goal.turn-requires-clause-size

@@ -1,4 +1,4 @@
--- One of the two shifts is by no bit.
+-- One of the two shifts is by 0 bits.
 use Rattle.std.proofs.Common.{◌∙◌}
 use Rattle.v_frame_convert.proofs.Depths.{changed_depth}
 use Rattle.v_frame_convert.proofs.depth_change.DepthChange.apply.Goals as goal

@@ -1,4 +1,4 @@
--- The largest values are all bits shifted down, and half of a power of two is less than 65536.
+-- The largest value of a depth is a right shift of 65535, and half of a power of two is below 65536.
 use Rattle.v_frame_convert.proofs.Depths.{largest_by_shift}
 use Rattle.v_frame_convert.proofs.depth_change.DepthChange.new.Goals as goal
 

@@ -1,4 +1,4 @@
--- No bit is lost.
+-- The shift loses no bit.
 use Rattle.std.proofs.Common.{◌∙◌}
 use Rattle.v_frame_convert.proofs.Depths.{raised_depth}
 use Rattle.v_frame_convert.proofs.depth_change.DepthChange.raise.Goals as goal

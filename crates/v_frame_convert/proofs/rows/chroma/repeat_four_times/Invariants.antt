@@ -1,4 +1,4 @@
--- The pixels so far are there four times.
+-- Each pixel processed so far is written four times.
 use Rattle.std.proofs.Common.{ℕ, ◌≡◌, ◌*◌, ◌/◌, ◌<◌, slice_get}
 use Rattle.v_frame_convert.proofs.rows.chroma.repeat_four_times.Given as goal
 

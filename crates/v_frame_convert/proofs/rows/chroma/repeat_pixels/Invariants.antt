@@ -1,4 +1,4 @@
--- The pixels so far are those of the columns divided by the ratio.
+-- The pixels processed so far are the source pixels at the columns divided by the ratio.
 use Rattle.std.proofs.Common.{ℕ, ◌≡◌, ◌/◌, ◌<◌, slice_get}
 use Rattle.v_frame_convert.proofs.rows.chroma.repeat_pixels.Given as goal
 

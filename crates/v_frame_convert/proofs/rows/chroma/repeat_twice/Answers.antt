@@ -1,4 +1,4 @@
--- The pairs are written at once, and the last column of an odd width is by itself.
+-- The pairs are written first, and then the last column of an odd width.
 use Rattle.std.proofs.Common.{ℕ, ◌≡◌, ◌≤◌, ◌*◌, ◌/◌, length, slice_get, slice_set, refl, sym, ◌∙◌, ap, arith}
 use Rattle.std.proofs.Math.ListN.{length-set}
 use Rattle.std.proofs.lemmas.Option.{slice_get_read}

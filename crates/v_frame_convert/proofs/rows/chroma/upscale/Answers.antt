@@ -1,4 +1,4 @@
--- Each row is written with the pixels of the row that it repeats.
+-- Each row is a copy of the row that it repeats, with its pixels repeated.
 use Rattle.std.proofs.Common.{◌≡◌, ◌+◌, ◌-◌, ◌*◌, ◌<◌, length, drop, arith, length-take-le, length-drop, ◌∙◌}
 use Rattle.std.proofs.Common.{ap}
 use Rattle.v_frame.specs.Prelude.{RowsFit, pixel_at}

@@ -1,4 +1,4 @@
--- The pixels so far are there twice.
+-- Each pixel processed so far is written twice.
 use Rattle.std.proofs.Common.{ℕ, ◌≡◌, ◌*◌, ◌/◌, ◌<◌, slice_get}
 use Rattle.v_frame_convert.proofs.rows.chroma.write_twice.Given as goal
 

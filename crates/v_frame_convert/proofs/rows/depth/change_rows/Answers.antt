@@ -1,4 +1,4 @@
--- The depth fits the pixels.
+-- The values fit the type of the pixels.
 use Rattle.std.proofs.Common.{rules, of_calls}
 use Rattle.v_frame_convert.proofs.rows.depth.change_rows.Goals as goal
 

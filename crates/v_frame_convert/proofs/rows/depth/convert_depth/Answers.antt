@@ -1,4 +1,4 @@
--- A depth that fits its pixels has no more values than they have.
+-- If a depth fits a type of pixels, its values fit the type.
 use Rattle.v_frame_convert.proofs.Depths.{depth_within}
 use Rattle.v_frame_convert.proofs.rows.depth.convert_depth.Goals as goal
 

@@ -1,4 +1,4 @@
--- Each row is written with the means of two rows.
+-- Each row is set to the means of two source rows.
 use Rattle.std.proofs.Common.{ℕ, ◌≡◌, ◌≢◌, ◌+◌, ◌-◌, ◌*◌, ◌<◌, List, length, drop, map, min, Some, slice_get, sym}
 use Rattle.std.proofs.Common.{◌∙◌, ap, subst, arith, length-take-le, length-drop}
 use Rattle.std.specs.List.{range_with_len}

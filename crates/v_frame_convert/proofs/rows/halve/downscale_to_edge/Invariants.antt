@@ -1,4 +1,4 @@
--- The rows so far are those of the table, and all else is as it was.
+-- The rows processed so far are the rows of the expected table, and everything else is unchanged.
 use Rattle.v_frame_raster.proofs.tables.StridedWrites.{WrittenBelow}
 use Rattle.v_frame_convert.specs.Scale.{scaled}
 use Rattle.v_frame_convert.specs.declared.scale.Scale.TheVariants.{Half}

@@ -1,4 +1,4 @@
--- Each row is written with the means of pairs of columns.
+-- Each row is set to the means of pairs of columns.
 use Rattle.std.proofs.Common.{ℕ, ◌≡◌, ◌≢◌, ◌+◌, ◌-◌, ◌*◌, ◌<◌, List, length, drop, map, Some, sym}
 use Rattle.std.proofs.Common.{◌∙◌, ap, arith, length-take-le, length-drop}
 use Rattle.std.specs.List.{range_with_len}

@@ -1,4 +1,4 @@
--- The pixels so far are means.
+-- The pixels processed so far are the expected means.
 use Rattle.std.proofs.Common.{ℕ, ◌≡◌, ◌<◌, Some, slice_get}
 use Rattle.v_frame_convert.specs.ScaledRows.{mean_in_two_rows}
 use Rattle.v_frame_convert.specs.declared.scale.Scale.TheVariants.{Half}

@@ -1,4 +1,4 @@
--- The blocks are halved, and the rest is by itself.
+-- The blocks are halved first, and then the rest of the row.
 use Rattle.std.proofs.Common.{◌≡◌, ◌*◌, ◌≤◌, length, take, Some, refl, ◌∙◌, ap, arith}
 use Rattle.v_frame.specs.Prelude.{halved}
 use Rattle.v_frame_convert.specs.ScaledRows.{mean_in_two_rows}

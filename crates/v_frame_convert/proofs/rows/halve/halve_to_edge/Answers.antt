@@ -1,4 +1,4 @@
--- The even parts are halved at once, and the last column of an odd width is by itself.
+-- The pairs are halved first, and then the last column of an odd width.
 use Rattle.std.proofs.Common.{ℕ, ◌≡◌, ◌+◌, ◌*◌, ◌/◌, length, take, Some, slice_get, slice_set, refl}
 use Rattle.std.proofs.Common.{sym, ◌∙◌, ap, arith}
 use Rattle.std.proofs.Math.ListN.{length-set}

@@ -1,4 +1,5 @@
--- What holds of the rows holds of the pixels, and of the table where the results are those of a function.
+-- A fact about the rows holds for their pixels. If the closure computes a function, the table is `map` of this
+-- function.
 use Rattle.v_frame_convert.specs.Convert.{converted}
 use Rattle.v_frame_convert.specs.Rows.{GivesItems}
 use Rattle.v_frame_convert.proofs.Made.{gives_pixels, gives_whole}

@@ -1,4 +1,4 @@
--- Each pixel is set to a result at what was read.
+-- Each pixel is set to a result of the closure for the pixel that was read.
 use Rattle.std.proofs.Common.{sym, ◌∙◌, subst, arith}
 use Rattle.std.proofs.lemmas.Option.{slice_get_read, slice_get_within, same_Some}
 use Rattle.v_frame_convert.proofs.Made.{GivenAt, none_made, one_more_made, all_given}

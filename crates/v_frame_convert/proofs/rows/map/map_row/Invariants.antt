@@ -1,4 +1,4 @@
--- The pixels so far are results.
+-- The pixels processed so far are results of the closure.
 use Rattle.v_frame_convert.proofs.Made.{MadeBelow, GivenAt}
 use Rattle.v_frame_convert.proofs.rows.map.map_row.Given as goal
 

@@ -1,4 +1,4 @@
--- Each row is written with results at the row that was read.
+-- Each row is set to results of the closure for the row that was read.
 use Rattle.std.proofs.Common.{◌≡◌, ◌+◌, ◌-◌, ◌*◌, ◌<◌, length, drop, arith, length-take-le, length-drop}
 use Rattle.std.proofs.Common.{subst, sym, ◌∙◌}
 use Rattle.std.proofs.lemmas.Option.{slice_get_within, same_Some}

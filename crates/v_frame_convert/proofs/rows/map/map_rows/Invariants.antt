@@ -1,4 +1,4 @@
--- The rows so far are results, and all else is as it was.
+-- The rows processed so far are results of the closure, and everything else is unchanged.
 use Rattle.v_frame_convert.specs.Rows.{GivesItems}
 use Rattle.v_frame_convert.proofs.Made.{RowsMadeBelow, GivenAt}
 use Rattle.v_frame_convert.proofs.rows.map.map_rows.Given as goal

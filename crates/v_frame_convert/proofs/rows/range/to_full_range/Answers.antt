@@ -1,4 +1,4 @@
--- A depth that fits its pixels has no more values than they have, and is at most 16.
+-- If a depth fits a type of pixels, its values fit the type, and the depth is at most 16.
 use Rattle.std.proofs.Common.{◌≤◌, arith, rules, of_calls}
 use Rattle.v_frame_convert.proofs.Depths.{depth_within}
 use Rattle.v_frame_convert.proofs.rows.range.to_full_range.Goals as goal

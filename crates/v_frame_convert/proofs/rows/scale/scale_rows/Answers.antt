@@ -1,4 +1,4 @@
--- Each row is written with the means of two rows.
+-- Each row is set to the means of two source rows.
 use Rattle.std.proofs.Common.{ℕ, ◌≡◌, ◌+◌, ◌-◌, ◌*◌, ◌<◌, List, length, drop, map, Some, slice_get, sym, ◌∙◌, ap}
 use Rattle.std.proofs.Common.{subst, arith, length-take-le, length-drop}
 use Rattle.std.specs.List.{range_with_len}

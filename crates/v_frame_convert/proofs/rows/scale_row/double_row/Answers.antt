@@ -1,4 +1,4 @@
--- Each pair of columns has one mean.
+-- Both columns of a pair have the same mean.
 use Rattle.std.proofs.Common.{ℕ, ◌≡◌, ◌+◌, ◌*◌, ◌/◌, ◌<◌, [], ◌∷◌, ◌++◌, Some, slice_get, slice_set, sym, ◌∙◌, ap}
 use Rattle.std.proofs.Common.{arith}
 use Rattle.std.proofs.Math.ListN.{length-set}

@@ -1,4 +1,4 @@
--- The pixels so far are means.
+-- The pixels processed so far are the expected means.
 use Rattle.std.proofs.Common.{◌*◌}
 use Rattle.v_frame_convert.specs.ScaledRows.{HoldsMeans}
 use Rattle.v_frame_convert.specs.declared.scale.Scale.TheVariants.{Quadruple}

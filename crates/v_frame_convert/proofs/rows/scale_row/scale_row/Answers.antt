@@ -1,4 +1,4 @@
--- The scale is that of the arm.
+-- In each arm of the match, the scale is the scale of the arm.
 use Rattle.v_frame_convert.proofs.rows.scale_row.scale_row.Goals as goal
 
 pub returns-in-Double : goal.returns-in-Double

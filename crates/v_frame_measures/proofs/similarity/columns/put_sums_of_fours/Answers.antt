@@ -1,4 +1,4 @@
--- One more of the sums.
+-- The loop step: one more sum.
 use Rattle.std.proofs.Common.{◌≡◌, ◌+◌, ◌*◌, ◌<◌, length, get_or, set, below_more, refl, ◌∙◌, arith}
 use Rattle.std.proofs.lemmas.List.{get_or-set_same, get_or-set_other, length-set}
 use Rattle.v_frame_measures.specs.ColumnSums.{four_of}

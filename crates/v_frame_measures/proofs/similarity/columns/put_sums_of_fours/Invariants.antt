@@ -1,4 +1,4 @@
--- The sums so far are made, and those before stay.
+-- The sums processed so far are written, and the entries before them are unchanged.
 use Rattle.std.proofs.Common.{ℕ, ◌≡◌, ◌+◌, ◌*◌, ◌<◌, length}
 use Rattle.std.specs.Prelude.{slice_index}
 use Rattle.v_frame_measures.specs.ColumnSums.{four_of}

@@ -1,4 +1,4 @@
--- Each lane is the sum of four numbers, which do not wrap.
+-- Each lane is the sum of four numbers, without overflow.
 use Rattle.std.proofs.Common.{ℕ, ◌≡◌, ◌+◌, ◌-◌, ◌<◌, List, length, ◌∙◌, arith}
 use Rattle.std.specs.Prelude.{slice_index}
 use Rattle.std.specs.List.{range_with_len}

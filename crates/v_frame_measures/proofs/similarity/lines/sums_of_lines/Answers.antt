@@ -1,4 +1,5 @@
--- One more strip of a line, one more line of a strip, and all.
+-- The loop steps handle one more strip of a line, and one more line of a strip. After the last step, all windows are
+-- added.
 use Rattle.std.proofs.Common.{◌≡◌, ◌+◌, ◌*◌, ◌≤◌, ◌<◌, length, inl, inr, refl, ap, ◌∙◌, arith}
 use Rattle.std.proofs.lemmas.Bool.{cases_lt}
 use Rattle.std.proofs.lemmas.List.{get_or-set_same, get_or-set_other, length-set}

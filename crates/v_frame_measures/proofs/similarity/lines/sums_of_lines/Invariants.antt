@@ -1,4 +1,4 @@
--- The windows of the strips so far are added in each line.
+-- In each line, the windows of the strips processed so far are added.
 use Rattle.std.proofs.Common.{ℕ, ◌≡◌, ◌+◌, ◌*◌, ◌≤◌, ◌<◌, get_or, length, map}
 use Rattle.std.specs.List.{range_with_len}
 use Rattle.std.specs.Float.{float_zero}

@@ -1,4 +1,4 @@
--- One more value.
+-- The loop step: one more value.
 use Rattle.std.proofs.Common.{◌≡◌, inl, inr, ap, sym, arith, get_or, ◌∙◌}
 use Rattle.std.proofs.lemmas.Bool.{cases_lt}
 use Rattle.std.proofs.lemmas.List.{get_or_default}

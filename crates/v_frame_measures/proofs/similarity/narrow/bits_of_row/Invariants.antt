@@ -1,4 +1,4 @@
--- The bits are at least each value so far.
+-- The bits are an upper bound of each value processed so far.
 use Rattle.std.proofs.Common.{ℕ, ◌<◌, ◌≤◌, get_or}
 use Rattle.v_frame_measures.proofs.similarity.narrow.bits_of_row.Given as goal
 

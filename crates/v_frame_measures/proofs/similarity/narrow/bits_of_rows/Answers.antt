@@ -1,4 +1,4 @@
--- One more row.
+-- The loop step: one more row.
 use Rattle.std.proofs.Common.{◌≡◌, ◌∙◌, inl, inr, arith, get_or}
 use Rattle.std.proofs.lemmas.Bool.{cases_lt}
 use Rattle.std.proofs.lemmas.Nat.{le_or_l, le_or_r}

@@ -1,4 +1,4 @@
--- The bits are at least each value of the rows so far.
+-- The bits are an upper bound of each value of the rows processed so far.
 use Rattle.std.proofs.Common.{ℕ, ◌<◌, List, get_or}
 use Rattle.v_frame_measures.specs.ColumnSums.{IsUpTo}
 use Rattle.v_frame_measures.proofs.similarity.narrow.bits_of_rows.Given as goal

@@ -1,4 +1,4 @@
--- One more row of four pixels.
+-- The loop step: one more row of four pixels.
 use Rattle.std.proofs.Common.{◌≡◌, ◌+◌, ◌-◌, ◌*◌, ◌≤◌, length, ap, sym, ◌∙◌, arith}
 use Rattle.v_frame_measures.specs.PixelSums.{added, sums_of_rectangle}
 use Rattle.v_frame_measures.proofs.Joined.{sums_of_rectangle-more, rectangle-length}

@@ -1,4 +1,4 @@
--- The rows so far are summed, and as many pixels of each picture.
+-- The rows processed so far are summed, with the same number of pixels of each picture.
 use Rattle.std.proofs.Common.{◌≡◌, ◌*◌, length}
 use Rattle.v_frame.specs.Prelude.{rectangle, row_major}
 use Rattle.v_frame_measures.specs.PixelSums.{sums_of_rectangle, AreSumsOver}

@@ -1,4 +1,4 @@
--- The pixels so far are summed.
+-- The pixels processed so far are summed.
 use Rattle.std.proofs.Common.{◌≡◌, take}
 use Rattle.v_frame_measures.specs.PixelSums.{sums_of, AreSumsOver}
 use Rattle.v_frame_measures.proofs.similarity.sums.sums_of_pixels.Given as goal

@@ -1,4 +1,4 @@
--- Each pixel is set to a result at what was read there.
+-- Each pixel is set to a result of the closure for the pixels that were read at this index.
 use Rattle.std.proofs.Common.{sym, subst}
 use Rattle.std.proofs.lemmas.Option.{slice_get_read}
 use Rattle.v_frame_ops.proofs.Changed.{GivenWith, same_item, none_changed, one_more_set, all_changed}

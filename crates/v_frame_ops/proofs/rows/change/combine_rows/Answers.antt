@@ -1,4 +1,4 @@
--- Each row is made of results at what both pictures held there.
+-- Each row is set to results of the closure for the pixels of both pictures in this row.
 use Rattle.std.proofs.Common.{◌≡◌, ◌+◌, ◌-◌, ◌*◌, ◌<◌, length, drop, take, subst, ◌∙◌, arith, length-take-le}
 use Rattle.std.proofs.Common.{length-drop}
 use Rattle.std.proofs.lemmas.List.{take_all}

@@ -1,4 +1,4 @@
--- The rows so far are made of results, and all else is as it was.
+-- The rows processed so far are results of the closure, and everything else is unchanged.
 use Rattle.v_frame.specs.Prelude.{strided_rows, KeepsRest}
 use Rattle.v_frame_ops.specs.Rows.{CombinesItems}
 use Rattle.v_frame_ops.proofs.Changed.{ChangedBelow, GivenWith}

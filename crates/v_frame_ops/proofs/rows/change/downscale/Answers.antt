@@ -1,4 +1,4 @@
--- Each row is written with the half of the two that were read.
+-- Each row is the mean of the two source rows that were read.
 use Rattle.std.proofs.Common.{◌≡◌, ◌+◌, ◌-◌, ◌*◌, ◌<◌, List, length, drop, Some, slice_get, ◌∙◌, arith, length-take-le}
 use Rattle.std.proofs.Common.{length-drop}
 use Rattle.std.proofs.Math.ListN.{set}

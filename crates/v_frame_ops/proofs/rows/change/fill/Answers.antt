@@ -1,4 +1,4 @@
--- A row that is one pixel repeated is one of so many.
+-- A row of one repeated pixel is a `replicate` of it.
 use Rattle.std.proofs.Common.{◌≡◌, ◌+◌, ◌-◌, ◌*◌, ◌<◌, List, length, drop, replicate, ap, ◌∙◌, arith, length-take-le}
 use Rattle.std.proofs.Common.{length-drop}
 use Rattle.std.proofs.lemmas.List.{length-replicate}

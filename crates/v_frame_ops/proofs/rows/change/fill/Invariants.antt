@@ -1,4 +1,4 @@
--- The rows so far are filled, and all else is as it was.
+-- The rows processed so far are filled, and everything else is unchanged.
 use Rattle.std.proofs.Common.{replicate}
 use Rattle.v_frame_raster.proofs.tables.StridedWrites.{WrittenBelow}
 use Rattle.v_frame_ops.proofs.rows.change.fill.Given as goal

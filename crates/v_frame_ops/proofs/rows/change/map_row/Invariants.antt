@@ -1,4 +1,4 @@
--- The pixels so far are results, and the others are as they were.
+-- The pixels processed so far are results of the closure, and the others are unchanged.
 use Rattle.v_frame_ops.proofs.Changed.{ChangedBelow}
 use Rattle.v_frame_ops.proofs.rows.change.map_row.Given as goal
 

@@ -1,4 +1,4 @@
--- Each row is written with results at what it held.
+-- Each row is set to results of the closure for its old pixels.
 use Rattle.std.proofs.Common.{◌≡◌, ◌+◌, ◌-◌, ◌*◌, ◌<◌, length, drop, take, arith, length-take-le, length-drop}
 use Rattle.v_frame.specs.Prelude.{strided_rows, RowsFit}
 use Rattle.v_frame_ops.specs.Rows.{MapsItems}

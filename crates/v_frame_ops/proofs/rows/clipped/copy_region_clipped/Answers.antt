@@ -1,4 +1,5 @@
--- The columns and the rows that overlap are a rectangle of the source, and no other pixel of it lies on the target.
+-- The columns and rows in which the source overlaps the target are a rectangle of the source. No other pixel of the
+-- source lies on the target.
 use Rattle.std.proofs.Common.{FitsSigned, to_z, of_z, w64, ℕ, ℤ, pos, ◌≡◌, ◌+◌, ◌+ℤ◌, ◌-◌, ◌<◌, ◌≤◌, ap, ◌∙◌, inl, inr, arith, length}
 use Rattle.std.proofs.lemmas.Int.{ints}
 use Rattle.std.proofs.lemmas.Bool.{cases_lt}
@@ -8,7 +9,7 @@ use Rattle.v_frame_ops.proofs.Tables.{rectangle_holds}
 use Rattle.v_frame_ops.proofs.rows.clipped.copy_region_clipped.Goals as goal
 use Rattle.v_frame_ops.proofs.rows.clipped.copy_region_clipped.Goals.{then-across-eq0-via-then-across-eq0, then-across-eq0-via-else-across-eq0+then-down-eq0}
 
--- so many columns after the first one that lies on the other's, so many lie there too
+-- The target column `k` under source column `i`, counted from the first columns that overlap.
 lies_after : (offset : ℤ) (start skipped i k : ℕ) → pos k ≡ offset +ℤ pos i → pos start ≡ offset +ℤ pos skipped
     → skipped ≤ i → k ≡ start + (i - skipped)
 lies_after offset start skipped i k on place from = omega (arith, ints)
@@ -28,7 +29,7 @@ returns-then-across-eq0-clause-inside g c = λ i j k l wide high wide1 high1 on.
       | then-across-eq0-via-else-across-eq0+then-down-eq0 w ↦ absurd (omega (arith, down.0, down.1))
     ]
 
--- the rows that are written are a part of the rows, from the first pixel that the source lies on
+-- The rows that are written are a part of the rows, and begin at the first pixel that the source covers.
 pub copy_rows-requires-clause-fit : goal.copy_rows-requires-clause-fit
 copy_rows-requires-clause-fit g c =
     let columns = c.new-across.result in

@@ -1,4 +1,4 @@
--- Rows are the same where `==` of their pixels says so.
+-- Two rows are equal if and only if `==` of all their pixels is true.
 use Rattle.std.proofs.lemmas.Bool.Decides.{Decides-at}
 use Rattle.v_frame_raster.proofs.tables.Equality.{buffers_decide}
 use Rattle.v_frame_ops.proofs.rows.compare.are_rows_same.Goals as goal

@@ -1,4 +1,4 @@
--- Where no row has a difference, both tables have one size and the same pixels.
+-- If no row differs, both tables have the same size and the same pixels.
 use Rattle.std.proofs.Common.{ℕ, ◌≡◌, All, List, length, refl, subst, arith}
 use Rattle.v_frame_ops.proofs.Tables.{first_difference_is, one_more_row_same}
 use Rattle.v_frame_ops.proofs.rows.compare.first_difference.Goals as goal

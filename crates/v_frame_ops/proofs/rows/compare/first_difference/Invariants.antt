@@ -1,4 +1,4 @@
--- The pixels of the rows so far are the same.
+-- The pixels of the rows processed so far are equal.
 use Rattle.std.proofs.Common.{ℕ, ◌≡◌, ◌<◌}
 use Rattle.v_frame.specs.Prelude.{pixel_at}
 use Rattle.v_frame_ops.proofs.rows.compare.first_difference.Given as goal

@@ -1,4 +1,4 @@
--- A pixel that was read is the one at its index.
+-- The pixel that is read at an index is the item of the row at this index.
 use Rattle.std.proofs.Common.{◌≡◌, Some, slice_get, true, refl, sym, ◌∙◌, ap, arith}
 use Rattle.std.proofs.lemmas.Option.{same_Some, slice_get_read}
 use Rattle.v_frame_ops.proofs.rows.compare.first_difference_of_rows.Goals as goal

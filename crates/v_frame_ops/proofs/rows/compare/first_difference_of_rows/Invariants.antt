@@ -1,4 +1,4 @@
--- The pixels so far are the same.
+-- The pixels processed so far are equal.
 use Rattle.v_frame_ops.specs.Compare.{SameBelow}
 use Rattle.v_frame_ops.proofs.rows.compare.first_difference_of_rows.Given as goal
 

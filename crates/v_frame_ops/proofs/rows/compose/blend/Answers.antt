@@ -1,4 +1,4 @@
--- The results are those of a function.
+-- The closure computes the blend.
 use Rattle.v_frame_ops.specs.Compose.{blended}
 use Rattle.v_frame_ops.proofs.rows.compose.blend.Goals as goal
 

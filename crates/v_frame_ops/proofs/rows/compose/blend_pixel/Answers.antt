@@ -1,4 +1,4 @@
--- The blends of the bytes are that of the values, which fits a pixel as they do.
+-- The blend of two values is the sum of the blends of their bytes, and it fits the type of the pixels.
 use Rattle.std.proofs.Common.{◌≡◌, ◌+◌, ◌-◌, ◌*◌, ◌/◌, refl, ◌∙◌, ap}
 use Rattle.v_frame_ops.proofs.Blends.{blend_by_bytes, blend_within}
 use Rattle.v_frame_ops.proofs.rows.compose.blend_pixel.Goals as goal

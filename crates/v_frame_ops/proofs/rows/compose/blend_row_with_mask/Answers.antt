@@ -1,4 +1,4 @@
--- Each pixel is set to the blend of what was read.
+-- Each pixel is set to the blend of the pixels that were read.
 use Rattle.std.proofs.Common.{sym, ap, Some, get_or, ◌∙◌, arith}
 use Rattle.std.proofs.lemmas.Option.{slice_get_read, slice_get-get_or}
 use Rattle.v_frame_ops.proofs.Changed.{same_item, none_changed, one_more_set, all_changed}

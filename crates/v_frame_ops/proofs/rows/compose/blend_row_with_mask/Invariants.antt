@@ -1,4 +1,4 @@
--- The pixels so far are blended, and the others are as they were.
+-- The pixels processed so far are blended, and the others are unchanged.
 use Rattle.std.proofs.Common.{ℕ, ◌≡◌, Some, slice_get}
 use Rattle.v_frame_ops.specs.Compose.{blended}
 use Rattle.v_frame_ops.proofs.Changed.{ChangedBelow}

@@ -1,4 +1,4 @@
--- Each row is blended with what both pictures held there.
+-- Each row is blended with the rows of the source and the mask.
 use Rattle.std.proofs.Common.{◌≡◌, ◌+◌, ◌-◌, ◌*◌, ◌<◌, length, drop, take, option_and_then, slice_get, ap, ◌∙◌, arith}
 use Rattle.std.proofs.Common.{length-take-le, length-drop}
 use Rattle.v_frame.specs.Prelude.{strided_rows, RowsFit}

@@ -1,4 +1,4 @@
--- The rows so far are blended, and all else is as it was.
+-- The rows processed so far are blended, and everything else is unchanged.
 use Rattle.std.proofs.Common.{ℕ, ◌≡◌, List, Some, slice_get}
 use Rattle.v_frame.specs.Prelude.{strided_rows, KeepsRest}
 use Rattle.v_frame_ops.specs.Compose.{BlendsByMask}

@@ -1,4 +1,4 @@
--- It is so of whatever each pair adds.
+-- This holds for every summand of a pair.
 use Rattle.v_frame_ops.proofs.rows.sums.differences_add_up.Goals as goal
 
 pub returns : goal.returns

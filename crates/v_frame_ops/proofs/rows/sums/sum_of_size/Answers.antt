@@ -1,4 +1,4 @@
--- One more row.
+-- The loop step: one more row.
 use Rattle.std.proofs.Common.{◌≡◌, ◌+◌, ◌*◌, arith}
 use Rattle.std.proofs.lemmas.List.{take_all}
 use Rattle.v_frame.specs.Prelude.{width_of}

@@ -1,4 +1,4 @@
--- The sum so far and that over the rows that are left are the whole, and no row adds more than its pixels can.
+-- The sum so far plus the sum over the remaining rows is the whole sum, and no row adds more than its bound.
 use Rattle.std.proofs.Common.{◌≡◌, ◌+◌, ◌*◌, ◌^◌, ◌≤◌, drop}
 use Rattle.std.specs.Prelude.{sum_by, zip}
 use Rattle.v_frame.specs.Prelude.{row_major, width_of}

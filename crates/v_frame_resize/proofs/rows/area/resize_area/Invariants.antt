@@ -1,4 +1,4 @@
--- The rows so far have the means, and all else is as it was.
+-- The rows processed so far have the means, and everything else is unchanged.
 use Rattle.std.proofs.Common.{Some}
 use Rattle.v_frame_resize.specs.Resize.{area_mean}
 use Rattle.v_frame_resize.proofs.PixelsWritten.{PixelsBelow}

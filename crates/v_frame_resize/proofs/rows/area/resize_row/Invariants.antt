@@ -1,4 +1,4 @@
--- The pixels so far are means.
+-- The pixels processed so far are the expected means.
 use Rattle.std.proofs.Common.{ℕ, ◌≡◌, ◌<◌, length, slice_get, Some}
 use Rattle.v_frame.specs.Prelude.{width_of}
 use Rattle.v_frame_resize.specs.Spans.{IsFirst}

@@ -1,4 +1,4 @@
--- The parts of the first and the last row are added, and those between them whole.
+-- The shares of the first and the last row are added, and the rows between them in full.
 use Rattle.std.proofs.Common.{ℕ, ◌≡◌, ◌+◌, ◌-◌, ◌*◌, ◌^◌, ◌<◌, ◌≤◌, List, Some, get_or, slice_get}
 use Rattle.std.proofs.Common.{ap, sym, ◌∙◌, refl, arith}
 use Rattle.std.proofs.Math.Nat.{mul-le-mul_left, mul-le-mul_right}
@@ -8,12 +8,12 @@ use Rattle.v_frame_resize.specs.Resize.{row_sum}
 use Rattle.v_frame_resize.proofs.Sums.{head_added, inner_added, tail_added, whole_added, sum_within, area_fits}
 use Rattle.v_frame_resize.proofs.rows.area.sum_of_area.Goals as goal
 
--- a row has no more pixels than its picture
+-- A row has at most as many pixels as its picture.
 narrow : {pixels width height : ℕ} → pixels ≡ width → 0 < height → width * height ≤ 2 ^ 48 → pixels ≤ 2 ^ 48
 narrow {pixels} {width} {height} is some few =
     let high : 1 ≤ height = omega (arith, some) in omega (arith, is, few, mul-le-mul_left width high)
 
--- a row that was read is the one at its place
+-- The row that is read is the row at this index.
 module _ {T : Type 0} (form : PixelForm T) (width x : ℕ) where
   counted : {sum : ℕ} {row : List T} (source : Table T) (j : ℕ) → slice_get source j ≡ Some row
       → sum ≡ row_sum form width x row → sum ≡ row_sum form width x (get_or source j row)

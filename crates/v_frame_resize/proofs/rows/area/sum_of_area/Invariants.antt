@@ -1,4 +1,4 @@
--- The sum so far and that of the rows that are left are the whole.
+-- The sum so far plus the sum of the remaining rows is the whole sum.
 use Rattle.std.proofs.Common.{◌+◌, ◌-◌, ◌*◌, ◌^◌}
 use Rattle.v_frame.specs.Prelude.{width_of, height_of}
 use Rattle.v_frame_resize.specs.Resize.{row_sum}

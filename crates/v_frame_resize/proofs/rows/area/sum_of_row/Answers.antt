@@ -1,4 +1,4 @@
--- The parts of the first and the last pixel are added, and those between them whole.
+-- The shares of the first and the last pixel are added, and the pixels between them in full.
 use Rattle.std.proofs.Common.{◌≡◌, ◌+◌, ◌-◌, ◌*◌, ◌^◌, ◌≤◌, ap, ◌∙◌, refl, arith}
 use Rattle.std.proofs.Math.Nat.{mul-le-mul_right}
 use Rattle.v_frame_resize.proofs.Sums.{head_added, inner_added, tail_added, whole_added, sum_within, sum_fits}

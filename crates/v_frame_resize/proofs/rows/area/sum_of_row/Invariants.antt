@@ -1,4 +1,4 @@
--- The sum so far and that of the pixels that are left are the whole.
+-- The sum so far plus the sum of the remaining pixels is the whole sum.
 use Rattle.std.proofs.Common.{◌+◌, ◌-◌, ◌*◌, ◌^◌, length}
 use Rattle.v_frame_resize.proofs.Sums.{SumSoFar}
 use Rattle.v_frame_resize.proofs.rows.area.sum_of_row.Given as goal

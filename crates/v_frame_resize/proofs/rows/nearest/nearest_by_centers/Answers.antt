@@ -1,4 +1,4 @@
--- The pixel at the center is written.
+-- The pixel that contains the center is written.
 use Rattle.std.proofs.Common.{◌≡◌, length, Some, slice_get, refl, arith}
 use Rattle.std.proofs.lemmas.Option.{slice_get_read}
 use Rattle.v_frame_resize.specs.Resize.{nearest}

@@ -1,4 +1,4 @@
--- The pixels so far are the nearest, and the next center is found.
+-- The pixels processed so far are the nearest ones, and the next center is known.
 use Rattle.std.proofs.Common.{length, slice_get}
 use Rattle.v_frame_resize.specs.Resize.{nearest}
 use Rattle.v_frame_resize.specs.Centers.{IsCenter}

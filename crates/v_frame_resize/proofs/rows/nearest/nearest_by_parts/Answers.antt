@@ -1,4 +1,5 @@
--- The pixels at two centers are written, and the last one of an odd number.
+-- The loop step writes the pixels at two centers. If the number of pixels is odd, the last one is written after the
+-- loop.
 use Rattle.std.proofs.Common.{◌≡◌, ◌+◌, ◌*◌, ◌/◌, length, slice_get, arith}
 use Rattle.v_frame_resize.specs.Resize.{nearest}
 use Rattle.v_frame_resize.proofs.PartLemmas.{next_place, next_fits, place_inside, center_is}

@@ -1,4 +1,4 @@
--- The row at the center is written.
+-- The row that contains the center is written.
 use Rattle.std.proofs.Common.{◌≡◌, ◌+◌, ◌-◌, ◌*◌, ◌<◌, length, drop, option_and_then, Some, slice_get}
 use Rattle.std.proofs.Common.{ap, sym, ◌∙◌, arith, length-take-le, length-drop}
 use Rattle.v_frame.specs.Prelude.{pixel_at, width_of, height_of}

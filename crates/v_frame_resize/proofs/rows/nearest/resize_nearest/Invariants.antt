@@ -1,4 +1,4 @@
--- The rows so far have the nearest pixels, and the next center is found.
+-- The rows processed so far have the nearest pixels, and the next center is known.
 use Rattle.v_frame.specs.Prelude.{pixel_at, width_of, height_of}
 use Rattle.v_frame_resize.specs.Resize.{nearest}
 use Rattle.v_frame_resize.specs.Centers.{IsCenter}

@@ -1,4 +1,4 @@
--- Each channel is an exact sum, rounded once.
+-- Each channel is an exact sum that is rounded once.
 use Rattle.std.proofs.Common.{◌≡◌, ◌∙◌}
 use Rattle.v_frame_rgb.specs.Exact.{exact_blue, exact_color, exact_green, exact_red}
 use Rattle.v_frame_rgb.proofs.ExactLemmas.{blue_is_exact, green_is_exact, red_is_exact}

@@ -1,4 +1,4 @@
--- The steps of the standard are whole, and small.
+-- The steps of the standard are integers, and they are small.
 use Rattle.std.proofs.Common.{◌*◌, ◌<◌, ◌^◌, arith}
 use Rattle.v_frame_rgb.specs.WholeSteps.{AreSmall, unit_at, whole_steps_of}
 use Rattle.v_frame_rgb.proofs.WholeStepLemmas.{steps_are_small, steps_are_whole, unit_is_small}

@@ -1,4 +1,4 @@
--- The color of one more pixel is written, and then the last.
+-- The loop step writes the color of one more pixel. The last pixel is handled after the loop.
 use Rattle.std.proofs.Common.{◌≡◌, ◌+◌, ◌-◌, ◌*◌, length, ◌∙◌, ap, arith}
 use Rattle.std.proofs.Math.Nat.{mul-le-mul_left}
 use Rattle.std.proofs.lemmas.List.{take_all}

@@ -1,4 +1,4 @@
--- The bytes so far are those of the colors so far.
+-- The bytes processed so far are the bytes of the colors processed so far.
 use Rattle.std.proofs.Common.{◌≡◌, ◌*◌, flat_map, take}
 use Rattle.v_frame_rgb.specs.Colors.{colors_of}
 use Rattle.v_frame_rgb.proofs.rows.decode.decode_row.Given as goal

@@ -1,4 +1,4 @@
--- The rows so far are colors, and all else is as it was.
+-- The rows processed so far are colors, and everything else is unchanged.
 use Rattle.v_frame_raster.proofs.tables.StridedWrites.{WrittenBelow}
 use Rattle.v_frame_rgb.specs.Colors.{color_rows}
 use Rattle.v_frame_rgb.proofs.rows.decode.yuv444_to_rgb.Given as goal

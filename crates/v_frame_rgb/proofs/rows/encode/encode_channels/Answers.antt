@@ -1,4 +1,4 @@
--- The samples of one more color are written.
+-- The loop step writes the samples of one more color.
 use Rattle.std.proofs.Common.{◌≡◌, ◌+◌, ◌-◌, ◌*◌, ◌∙◌, ap, arith}
 use Rattle.v_frame_rgb.specs.Colors.{y_of, u_of, v_of}
 use Rattle.v_frame_rgb.proofs.SampleLemmas.{one_more_sample}

@@ -1,4 +1,4 @@
--- The sample of one more color is written.
+-- The loop step writes the sample of one more color.
 use Rattle.std.proofs.Common.{◌≡◌, ◌+◌, ◌-◌, ◌*◌, ◌∙◌, ap, arith}
 use Rattle.v_frame_rgb.proofs.SampleLemmas.{one_more_sample}
 use Rattle.v_frame_rgb.proofs.rows.encode.encode_row.Goals as goal

@@ -1,4 +1,4 @@
--- The samples so far are those of the colors so far.
+-- The samples processed so far are the samples of the colors processed so far.
 use Rattle.std.proofs.Common.{◌≡◌, map, take}
 use Rattle.v_frame_rgb.specs.Colors.{colors_in}
 use Rattle.v_frame_rgb.proofs.rows.encode.encode_row.Given as goal

@@ -1,4 +1,4 @@
--- The rows so far are samples, and all else is as it was.
+-- The rows processed so far are samples, and everything else is unchanged.
 use Rattle.v_frame_raster.proofs.tables.StridedWrites.{WrittenBelow}
 use Rattle.v_frame_rgb.specs.Colors.{sample_rows}
 use Rattle.v_frame_rgb.proofs.rows.encode.rgb_to_channel.Given as goal

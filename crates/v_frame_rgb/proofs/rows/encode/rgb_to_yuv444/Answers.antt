@@ -1,4 +1,4 @@
--- The row of the source makes one more row of each buffer, and then its last.
+-- The loop step writes one row of each buffer from a source row. The last row is handled after the loop.
 use Rattle.std.proofs.Common.{ℕ, ◌<◌, List, map, ◌∙◌, arith}
 use Rattle.std.proofs.lemmas.List.{length-map}
 use Rattle.v_frame_raster.proofs.tables.StridedWrites.{none_written, all_written}

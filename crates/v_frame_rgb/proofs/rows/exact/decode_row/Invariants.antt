@@ -1,4 +1,4 @@
--- The bytes so far are those of the colors so far.
+-- The bytes processed so far are the bytes of the colors processed so far.
 use Rattle.std.proofs.Common.{◌≡◌, ◌*◌, flat_map, take}
 use Rattle.v_frame_rgb.specs.Exact.{exact_colors}
 use Rattle.v_frame_rgb.proofs.rows.exact.decode_row.Given as goal

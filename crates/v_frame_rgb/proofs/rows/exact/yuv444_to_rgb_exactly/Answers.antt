@@ -1,4 +1,4 @@
--- The three rows of the sources make one more row of the buffer, and then its last.
+-- The loop step writes one row of the buffer from the three source rows. The last row is handled after the loop.
 use Rattle.std.proofs.Common.{◌≡◌, ◌+◌, ◌-◌, ◌*◌, ◌<◌, length, drop, Some, slice_get, ◌∙◌, ap, sym, arith}
 use Rattle.std.proofs.Common.{length-take-le, length-drop}
 use Rattle.v_frame_raster.proofs.tables.StridedWrites.{row_ends, none_written, one_more_written, all_written}

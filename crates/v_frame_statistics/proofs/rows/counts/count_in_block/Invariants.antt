@@ -1,4 +1,4 @@
--- The pixels so far are counted.
+-- The pixels processed so far are counted.
 use Rattle.std.proofs.Common.{◌≡◌, ◌≤◌, Bool, count_by, take}
 use Rattle.v_frame_statistics.specs.Count.{SaysAs}
 use Rattle.v_frame_statistics.proofs.rows.counts.count_in_block.Given as goal

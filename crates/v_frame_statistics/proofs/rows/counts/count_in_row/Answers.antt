@@ -1,4 +1,4 @@
--- One more block, and the rest of the row.
+-- The loop step handles one more block. After the loop, the rest of the row is handled.
 use Rattle.std.proofs.Common.{◌≡◌, ◌+◌, ◌-◌, ◌*◌, ◌/◌, cond, arith, length}
 use Rattle.v_frame_statistics.proofs.ListSums.{sum_by-piece, sum_by-rest}
 use Rattle.v_frame_statistics.proofs.rows.counts.count_in_row.Goals as goal

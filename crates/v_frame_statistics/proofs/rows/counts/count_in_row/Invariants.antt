@@ -1,4 +1,4 @@
--- The pixels of the blocks so far are counted.
+-- The pixels of the blocks processed so far are counted.
 use Rattle.std.proofs.Common.{◌≡◌, ◌≤◌, ◌*◌, Bool, count_by, take}
 use Rattle.v_frame_statistics.specs.Count.{SaysAs}
 use Rattle.v_frame_statistics.proofs.rows.counts.count_in_row.Given as goal

@@ -1,4 +1,4 @@
--- One more pair, and all.
+-- The loop step counts one more pair. After the last step, all pairs are counted.
 use Rattle.std.proofs.Common.{◌≤◌, cond, arith, length}
 use Rattle.std.specs.Prelude.{zip}
 use Rattle.std.proofs.lemmas.List.{take_all}

@@ -1,4 +1,4 @@
--- The pairs so far are counted.
+-- The pairs processed so far are counted.
 use Rattle.std.proofs.Common.{◌≡◌, ◌≤◌, Bool, count_by, take}
 use Rattle.std.specs.Prelude.{zip}
 use Rattle.v_frame_statistics.specs.Count.{SaysAsOfPairs}

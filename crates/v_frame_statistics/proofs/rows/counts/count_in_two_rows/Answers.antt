@@ -1,4 +1,4 @@
--- One more block, and the rest of the rows.
+-- The loop step adds one more block. After the loop, the rest of the rows is added.
 use Rattle.std.proofs.Common.{◌≡◌, ◌+◌, ◌-◌, ◌*◌, ◌/◌, cond, arith, length}
 use Rattle.std.specs.Prelude.{zip}
 use Rattle.v_frame_statistics.specs.Count.{passing_pairs}

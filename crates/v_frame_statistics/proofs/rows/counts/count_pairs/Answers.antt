@@ -1,4 +1,4 @@
--- One more row, and all.
+-- The loop step counts one more row. After the last step, all rows are counted.
 use Rattle.std.proofs.Common.{◌≡◌, ◌+◌, ◌*◌, length, cond, arith}
 use Rattle.std.proofs.lemmas.List.{drop_all}
 use Rattle.v_frame.specs.Prelude.{width_of}

@@ -1,4 +1,4 @@
--- The places so far that pass and those of the rows that are left are all that pass.
+-- The number of passing positions so far plus the number in the remaining rows is the whole number.
 use Rattle.std.proofs.Common.{◌≡◌, ◌+◌, ◌≤◌, ◌*◌, Bool, drop}
 use Rattle.v_frame.specs.Prelude.{row_major, width_of}
 use Rattle.v_frame_statistics.specs.Count.{SaysAsOfPairs, passing_pairs}

@@ -1,4 +1,4 @@
--- One more row.
+-- The loop step: one more row.
 use Rattle.std.proofs.Common.{◌≡◌, ◌+◌, ◌*◌, cond, arith}
 use Rattle.v_frame.specs.Prelude.{width_of}
 use Rattle.v_frame_statistics.proofs.ListSums.{sum_by-row}

@@ -1,4 +1,4 @@
--- The pixels so far that pass and those of the rows that are left are all that pass.
+-- The number of passing pixels so far plus the number in the remaining rows is the whole number.
 use Rattle.std.proofs.Common.{◌≡◌, ◌+◌, ◌≤◌, ◌*◌, Bool, count_by, drop}
 use Rattle.v_frame.specs.Prelude.{row_major, width_of}
 use Rattle.v_frame_statistics.specs.Count.{SaysAs}

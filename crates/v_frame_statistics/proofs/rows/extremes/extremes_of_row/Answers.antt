@@ -1,4 +1,4 @@
--- One more pixel, and all.
+-- The loop step handles one more pixel. After the last step, all pixels are handled.
 use Rattle.std.proofs.Common.{arith}
 use Rattle.v_frame_statistics.proofs.Extremal.{by_least, by_greatest, first_of_more, first_of_all}
 use Rattle.v_frame_statistics.proofs.rows.extremes.extremes_of_row.Goals as goal

@@ -1,4 +1,4 @@
--- The pixels are the least and the greatest so far.
+-- The pixels are the minimum and the maximum so far.
 use Rattle.std.proofs.Common.{◌≤◌}
 use Rattle.v_frame_statistics.proofs.Extremal.{FirstSoFar}
 use Rattle.v_frame_statistics.proofs.rows.extremes.extremes_of_row.Given as goal

@@ -1,4 +1,4 @@
--- The pixel is the greatest so far.
+-- The pixel is the maximum so far.
 use Rattle.std.proofs.Common.{take}
 use Rattle.v_frame_statistics.specs.Extremes.{IsGreatest}
 use Rattle.v_frame_statistics.proofs.rows.extremes.greatest_of_row.Given as goal

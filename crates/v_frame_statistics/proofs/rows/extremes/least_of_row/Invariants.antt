@@ -1,4 +1,4 @@
--- The pixel is the least so far.
+-- The pixel is the minimum so far.
 use Rattle.std.proofs.Common.{take}
 use Rattle.v_frame_statistics.specs.Extremes.{IsLeast}
 use Rattle.v_frame_statistics.proofs.rows.extremes.least_of_row.Given as goal

@@ -1,4 +1,4 @@
--- One more row.
+-- The loop step: one more row.
 use Rattle.v_frame_statistics.proofs.Extremal.{by_least, first_of_more_rows}
 use Rattle.v_frame_statistics.proofs.rows.extremes.minimum.Goals as goal
 

@@ -1,4 +1,4 @@
--- The pixel is the least of the rows so far.
+-- The pixel is the minimum of the rows processed so far.
 use Rattle.std.proofs.Common.{take}
 use Rattle.v_frame.specs.Prelude.{row_major}
 use Rattle.v_frame_statistics.specs.Extremes.{IsLeast}

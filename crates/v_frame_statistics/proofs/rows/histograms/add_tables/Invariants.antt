@@ -1,4 +1,4 @@
--- The counts so far are added, and the others are as they were.
+-- The counts processed so far are added, and the others are unchanged.
 use Rattle.std.proofs.Common.{ℕ, ◌≡◌, ◌+◌, ◌<◌, ◌≤◌, get_or}
 use Rattle.v_frame_statistics.proofs.rows.histograms.add_tables.Given as goal
 

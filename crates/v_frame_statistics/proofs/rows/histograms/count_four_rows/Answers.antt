@@ -1,4 +1,4 @@
--- One more pixel of each row.
+-- The loop step: one more pixel of each row.
 use Rattle.std.proofs.Common.{arith}
 use Rattle.v_frame_statistics.proofs.HistogramSteps.{one_more_counted}
 use Rattle.v_frame_statistics.proofs.rows.histograms.count_four_rows.Goals as goal

@@ -1,4 +1,4 @@
--- The pixels so far are counted.
+-- The pixels processed so far are counted.
 use Rattle.std.proofs.Common.{take}
 use Rattle.v_frame_statistics.specs.Histogram.{CountsMore}
 use Rattle.v_frame_statistics.proofs.rows.histograms.count_row.Given as goal

@@ -1,4 +1,4 @@
--- Four more pixels.
+-- The loop step: four more pixels.
 use Rattle.std.proofs.Common.{ℕ, cond, nat_eq, arith}
 use Rattle.v_frame_statistics.proofs.ListSums.{sum_by-four_more}
 use Rattle.v_frame_statistics.proofs.rows.histograms.count_words.Goals as goal

@@ -1,4 +1,4 @@
--- The pixels so far are counted.
+-- The pixels processed so far are counted.
 use Rattle.std.proofs.Common.{◌*◌, take, length}
 use Rattle.v_frame_statistics.specs.Histogram.{CountsMore}
 use Rattle.v_frame_statistics.proofs.rows.histograms.count_words.Given as goal

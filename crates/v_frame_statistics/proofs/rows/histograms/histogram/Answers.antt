@@ -1,4 +1,4 @@
--- Four more rows, one more row, and all.
+-- The loop steps count four more rows, or one more row. After the last step, all rows are counted.
 use Rattle.std.proofs.Common.{◌≡◌, ◌+◌, ◌*◌, arith}
 use Rattle.std.proofs.lemmas.List.{drop_all}
 use Rattle.v_frame_statistics.proofs.HistogramSteps.{row_counted, four_rows_counted, row_fits}

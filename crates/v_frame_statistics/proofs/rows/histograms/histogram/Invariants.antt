@@ -1,4 +1,4 @@
--- The rows so far are counted.
+-- The rows processed so far are counted.
 use Rattle.std.proofs.Common.{◌+◌, ◌*◌, get_or}
 use Rattle.v_frame_statistics.proofs.HistogramSteps.{CountedAbove}
 use Rattle.v_frame_statistics.proofs.rows.histograms.histogram.Given as goal

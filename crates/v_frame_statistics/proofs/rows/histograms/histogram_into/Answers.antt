@@ -1,4 +1,4 @@
--- One more row.
+-- The loop step: one more row.
 use Rattle.std.proofs.Common.{length}
 use Rattle.v_frame_statistics.proofs.HistogramSteps.{row_counted}
 use Rattle.v_frame_statistics.proofs.rows.histograms.histogram_into.Goals as goal

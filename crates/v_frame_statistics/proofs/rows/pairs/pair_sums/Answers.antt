@@ -1,4 +1,4 @@
--- One more row of each picture, and all.
+-- The loop step adds one more row of each picture. After the last step, the sums are complete.
 use Rattle.std.proofs.Common.{◌≡◌, length, arith}
 use Rattle.v_frame_statistics.proofs.PairSteps.{row_pairs_summed, all_row_pairs_summed}
 use Rattle.v_frame_statistics.proofs.SumSteps.{row_summed, all_rows_summed}

@@ -1,4 +1,4 @@
--- The rows so far are summed.
+-- The rows processed so far are summed.
 use Rattle.std.proofs.Common.{◌*◌}
 use Rattle.v_frame_statistics.proofs.PairSteps.{PairsSummedAbove}
 use Rattle.v_frame_statistics.proofs.SumSteps.{SummedAbove}

@@ -1,4 +1,4 @@
--- The first row, and one more.
+-- The first row, and one more row in each loop step.
 use Rattle.v_frame_statistics.proofs.Extremal.{by_least, by_greatest, first_of_more_rows, first_rows}
 use Rattle.v_frame_statistics.proofs.SumSteps.{row_summed, first_row_summed}
 use Rattle.v_frame_statistics.proofs.rows.summary.statistics.Goals as goal

@@ -1,4 +1,4 @@
--- The rows so far are summed, and the pixels are their least and greatest.
+-- The rows processed so far are summed, and the pixels are their minimum and maximum.
 use Rattle.std.proofs.Common.{◌*◌, take}
 use Rattle.v_frame.specs.Prelude.{row_major}
 use Rattle.v_frame_statistics.specs.Extremes.{IsGreatest, IsLeast}

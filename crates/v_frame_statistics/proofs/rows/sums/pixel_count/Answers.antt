@@ -1,4 +1,4 @@
--- All rows have one width.
+-- All rows have the same width.
 use Rattle.v_frame_statistics.proofs.SumSteps.{pixels_of_rows}
 use Rattle.v_frame_statistics.proofs.rows.sums.pixel_count.Goals as goal
 

@@ -1,4 +1,4 @@
--- One more row.
+-- The loop step: one more row.
 use Rattle.v_frame_statistics.proofs.SumSteps.{row_summed}
 use Rattle.v_frame_statistics.proofs.rows.sums.sum.Goals as goal
 

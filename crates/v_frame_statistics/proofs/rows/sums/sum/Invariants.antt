@@ -1,4 +1,4 @@
--- The rows so far are summed.
+-- The rows processed so far are summed.
 use Rattle.v_frame_statistics.proofs.SumSteps.{SummedAbove}
 use Rattle.v_frame_statistics.proofs.rows.sums.sum.Given as goal
 

@@ -1,4 +1,5 @@
--- A row of the source, counted from one end and read from one end, is one of the flipped rows.
+-- A row of the source, with its index counted from one of the ends and its pixels in one of the directions, is a row of
+-- the flipped table.
 use Rattle.std.proofs.Common.{◌≡◌, ◌+◌, ◌-◌, ◌*◌, ◌<◌, length, Some, slice_get, sym, ◌∙◌, ap, arith}
 use Rattle.v_frame_raster.proofs.tables.StridedWrites.{none_written, one_more_written, all_written}
 use Rattle.v_frame_turn.specs.Turning.{flipped, list_from}

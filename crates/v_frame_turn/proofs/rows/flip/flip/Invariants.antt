@@ -1,4 +1,4 @@
--- The rows so far are turned, and all else is as it was.
+-- The rows processed so far have their final values, and everything else is unchanged.
 use Rattle.v_frame_raster.proofs.tables.StridedWrites.{WrittenBelow}
 use Rattle.v_frame_turn.specs.Turning.{flipped}
 use Rattle.v_frame_turn.proofs.rows.flip.flip.Given as goal

@@ -1,4 +1,4 @@
--- A row that was not yet reached is the one that was there, so its reverse is one of the mirrored rows.
+-- A row that was not reached yet is unchanged, so its reverse is a row of the mirrored table.
 use Rattle.std.proofs.Common.{◌≡◌, ◌+◌, ◌-◌, ◌*◌, ◌<◌, length, drop, take, map, Some, reverse, slice_get, sym, ◌∙◌, ap}
 use Rattle.std.proofs.Common.{arith}
 use Rattle.std.proofs.Common.{length-take-le, length-drop}

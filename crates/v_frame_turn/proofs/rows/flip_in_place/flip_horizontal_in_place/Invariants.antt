@@ -1,4 +1,4 @@
--- The rows so far are mirrored, and all else is as it was.
+-- The rows processed so far are mirrored, and everything else is unchanged.
 use Rattle.std.proofs.Common.{map, reverse}
 use Rattle.v_frame.specs.Prelude.{strided_rows}
 use Rattle.v_frame_raster.proofs.tables.StridedWrites.{WrittenBelow}

@@ -1,4 +1,4 @@
--- Rows that are not mirrored are the rows.
+-- If the rows are not mirrored, they are unchanged.
 use Rattle.std.proofs.Common.{reverse, ◌∙◌, ap}
 use Rattle.std.proofs.lemmas.List.{map-id}
 use Rattle.v_frame.specs.Prelude.{strided_rows}

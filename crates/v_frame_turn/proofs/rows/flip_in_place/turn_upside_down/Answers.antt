@@ -1,4 +1,4 @@
--- Two rows are exchanged and turned, the upper one in front of where the lower one begins.
+-- Two rows are swapped and mirrored. The upper one ends before the lower one begins.
 use Rattle.std.proofs.Common.{◌≡◌, ◌+◌, ◌-◌, ◌*◌, ◌/◌, ◌%◌, ◌<◌, length, drop, take, ◌∙◌, ap, arith}
 use Rattle.std.proofs.Common.{length-take-le, length-drop}
 use Rattle.v_frame.specs.Prelude.{strided_rows, RowsFit}

@@ -1,4 +1,5 @@
--- The rows so far are turned ones as far from the bottom, which became them, and all else is as it was.
+-- The rows processed so far are swapped with the rows at the same distance from the bottom, and everything else is
+-- unchanged.
 use Rattle.v_frame.specs.Prelude.{strided_rows, KeepsRest}
 use Rattle.v_frame_turn.specs.Turning.{list_from}
 use Rattle.v_frame_turn.proofs.Exchanged.{ExchangedBelow}

@@ -1,4 +1,4 @@
--- The rows that are written have the pixels of the turned table.
+-- The rows that are written have the pixels of the transformed table.
 use Rattle.std.proofs.Common.{◌-◌, ◌∙◌, ap}
 use Rattle.v_frame.specs.Prelude.{pixel_at}
 use Rattle.v_frame_turn.proofs.Transposed.{shown_rotated_270}

@@ -1,4 +1,4 @@
--- The rows that are written have the pixels of the turned table.
+-- The rows that are written have the pixels of the transformed table.
 use Rattle.v_frame_turn.proofs.Transposed.{shown_transposed}
 use Rattle.v_frame_turn.proofs.rows.quarter.transpose.Goals as goal
 

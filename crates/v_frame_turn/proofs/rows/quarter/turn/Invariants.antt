@@ -1,4 +1,4 @@
--- The rows of the blocks so far are turned, and all else is as it was.
+-- The rows of the blocks processed so far have their final values, and everything else is unchanged.
 use Rattle.std.proofs.Common.{ℕ, ◌≡◌, ◌*◌, ◌<◌}
 use Rattle.v_frame.specs.Prelude.{pixel_at, strided_rows, KeepsRest}
 use Rattle.v_frame_turn.specs.Turning.{turned_pixel}

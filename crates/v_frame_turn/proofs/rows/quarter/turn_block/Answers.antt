@@ -1,4 +1,4 @@
--- Two more columns are turned.
+-- The loop step: two more columns have their final values.
 use Rattle.std.proofs.Common.{◌≡◌, ◌*◌, inl, inr, arith}
 use Rattle.std.proofs.lemmas.Bool.{cases_lt, cases_eq}
 use Rattle.v_frame_raster.proofs.tables.StridedWrites.{rest_kept}

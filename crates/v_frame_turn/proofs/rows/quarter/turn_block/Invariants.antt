@@ -1,4 +1,4 @@
--- The columns so far are turned, and all else is as it was or turned before.
+-- The columns processed so far have their final values, and everything else is unchanged or was final before.
 use Rattle.std.proofs.Common.{ℕ, ◌*◌, ◌<◌}
 use Rattle.v_frame.specs.Prelude.{strided_rows, KeepsRest}
 use Rattle.v_frame_turn.specs.Turning.{turned_pixel, ColumnIsRight, KeepsRight}

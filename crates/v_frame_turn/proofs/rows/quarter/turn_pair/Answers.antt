@@ -1,4 +1,4 @@
--- The two pixels that are written are those of the source.
+-- The two pixels that are written are pixels of the source.
 use Rattle.std.proofs.Common.{◌≡◌, length, Some, slice_get, sym, ◌∙◌, arith}
 use Rattle.std.proofs.lemmas.Option.{slice_get_read}
 use Rattle.v_frame_turn.specs.Turning.{turned_pixel}

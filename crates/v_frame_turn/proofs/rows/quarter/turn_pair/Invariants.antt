@@ -1,4 +1,4 @@
--- Both columns are turned so far, and all else is as it was or turned before.
+-- Both columns have their final values so far, and everything else is unchanged or was final before.
 use Rattle.v_frame_turn.specs.Turning.{turned_pixel}
 use Rattle.v_frame_turn.proofs.Entries.{ColumnsRight}
 use Rattle.v_frame_turn.proofs.rows.quarter.turn_pair.Given as goal

@@ -1,4 +1,4 @@
--- The pixels so far are those of the other row, and the others are as they were.
+-- The pixels processed so far are the pixels of the other row, and the others are unchanged.
 use Rattle.std.proofs.Common.{ℕ, ◌≡◌, ◌<◌, ◌≤◌, slice_get}
 use Rattle.v_frame_turn.proofs.rows.row.exchange.Given as goal
 

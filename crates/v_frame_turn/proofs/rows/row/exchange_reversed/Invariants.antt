@@ -1,4 +1,5 @@
--- The pixels so far, of the second row from its right end, are those of the other one, and the others are as they were.
+-- The pixels processed so far are the pixels of the other row, with the second row counted from its right end. The
+-- others are unchanged.
 use Rattle.std.proofs.Common.{ℕ, ◌≡◌, ◌+◌, ◌-◌, ◌<◌, ◌≤◌, slice_get}
 use Rattle.v_frame_turn.proofs.rows.row.exchange_reversed.Given as goal
 

@@ -1,4 +1,4 @@
--- The pixels so far are those of the source from its right end.
+-- The pixels processed so far are the pixels of the source, counted from its right end.
 use Rattle.std.proofs.Common.{ℕ, ◌≡◌, ◌-◌, ◌<◌, slice_get}
 use Rattle.v_frame_turn.proofs.rows.row.write_reversed.Given as goal
 

@@ -1,4 +1,4 @@
--- One more window.
+-- The loop step: one more window.
 use Rattle.std.proofs.Common.{ap, ◌∙◌, arith}
 use Rattle.v_frame_measures.specs.BlockSums.{window_of}
 use Rattle.v_frame_measures.specs.Ssim.{similarity_of}

@@ -1,4 +1,4 @@
--- The windows so far are added.
+-- The windows processed so far are added.
 use Rattle.std.proofs.Common.{◌≡◌}
 use Rattle.std.specs.List.{fold}
 use Rattle.std.specs.Float.Ieee.{add}

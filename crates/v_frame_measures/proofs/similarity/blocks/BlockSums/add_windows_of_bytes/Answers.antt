@@ -1,4 +1,4 @@
--- One more window, eight of them, and all.
+-- The loop steps add one more window, or eight windows. After the last step, all windows are added.
 use Rattle.std.proofs.Common.{ℕ, ◌≡◌, ◌+◌, ◌-◌, ◌*◌, List, get_or, min, ap, ◌∙◌, arith, refl}
 use Rattle.std.specs.Float.Ieee.{Float}
 use Rattle.std.proofs.lemmas.List.FromFn.{get_or-map-range_with_len}

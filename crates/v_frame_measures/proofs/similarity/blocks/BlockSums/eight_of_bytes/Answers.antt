@@ -1,4 +1,4 @@
--- Eight windows as a list, of which the lanes are what they sum.
+-- Eight windows as a list, with one lane for each sum.
 use Rattle.std.proofs.Common.{ℕ, map, sym, ◌∙◌, arith}
 use Rattle.std.specs.List.{range_with_len}
 use Rattle.std.proofs.lemmas.Simd.{map-map}

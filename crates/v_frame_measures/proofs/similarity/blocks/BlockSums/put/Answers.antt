@@ -1,4 +1,4 @@
--- Each of the four sums of a block.
+-- The proof treats each of the four sums of a block.
 use Rattle.v_frame_measures.proofs.Joined.{alike}
 use Rattle.v_frame_measures.proofs.similarity.blocks.BlockSums.put.Goals as goal
 

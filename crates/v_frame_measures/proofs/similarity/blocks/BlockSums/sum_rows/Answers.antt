@@ -1,4 +1,4 @@
--- Eight more blocks, and all.
+-- The loop step sums eight more blocks. After the last step, all blocks are summed.
 use Rattle.std.proofs.Common.{◌≡◌, ◌+◌, ◌-◌, ◌*◌, ◌≤◌, ◌<◌, ◌∙◌, arith, inl, inr}
 use Rattle.std.proofs.lemmas.Bool.{cases_lt}
 use Rattle.v_frame_measures.proofs.Blocks.{block_is}

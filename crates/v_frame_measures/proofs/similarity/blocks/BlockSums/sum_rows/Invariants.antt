@@ -1,4 +1,4 @@
--- The blocks so far are summed.
+-- The blocks processed so far are summed.
 use Rattle.std.proofs.Common.{◌*◌, min}
 use Rattle.v_frame_measures.specs.BlockSums.{AreBlockSums}
 use Rattle.v_frame_measures.proofs.similarity.blocks.BlockSums.sum_rows.Given as goal

@@ -1,4 +1,4 @@
--- Each of the four sums of a window.
+-- The proof treats each of the four sums of a window.
 use Rattle.v_frame_measures.proofs.Joined.{alike}
 use Rattle.v_frame_measures.proofs.similarity.blocks.BlockSums.window.Goals as goal
 

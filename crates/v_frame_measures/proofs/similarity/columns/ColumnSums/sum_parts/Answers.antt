@@ -1,4 +1,4 @@
--- One more column.
+-- The loop step: one more column.
 use Rattle.std.proofs.Common.{[], ◌∷◌, arith, ◌∙◌}
 use Rattle.v_frame_measures.proofs.Columns.{ColumnPixels, column_of_pixels, one_more_column}
 use Rattle.v_frame_measures.proofs.Joined.{alike}

@@ -1,4 +1,4 @@
--- The columns so far are summed.
+-- The columns processed so far are summed.
 use Rattle.std.proofs.Common.{[], ◌∷◌}
 use Rattle.v_frame_measures.proofs.Columns.{SummedColumns}
 use Rattle.v_frame_measures.proofs.similarity.columns.ColumnSums.sum_parts.Given as goal

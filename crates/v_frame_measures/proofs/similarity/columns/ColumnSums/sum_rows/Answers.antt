@@ -1,4 +1,4 @@
--- Parts of four rows are those of the pictures.
+-- The parts of four rows are parts of the pictures.
 use Rattle.std.proofs.Common.{◌≡◌, ◌+◌, ◌-◌, arith}
 use Rattle.v_frame_measures.proofs.Columns.{part_is_narrow, parts_summed}
 use Rattle.v_frame_measures.proofs.similarity.columns.ColumnSums.sum_rows.Goals as goal
