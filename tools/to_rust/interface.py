@@ -99,6 +99,6 @@ def add_arms(source):
         names = [source[k] for k in range(opening, closing) if source[k + 1] == "=>"]
         if source[opening + 1] in tables.OWN_ERRORS and not any(name == "_" or name.islower() for name in names):
             if source[closing - 1] not in (",", "}"):
-                source.refuse(closing, "a last arm without a comma")
+                source.refuse(closing, "the last arm has no comma")
             arm = '_ => unreachable!("an error that the sources do not know"),'
             source.insert(closing, "error-arm", arm, source.tokens[closing].lead + "    ")

@@ -57,7 +57,7 @@ def parameters_of(source, item):
     names = [[at for at in range(start, end) if source.is_word(at) and source[at] != "mut"]
              if source.words(start, end).count(" = ") == 0 else [] for start, end in parts]
     if [] in names:
-        source.refuse(parts[names.index([])][0], "a parameter that is not known")
+        source.refuse(parts[names.index([])][0], "unsupported form of a parameter")
     return [(start, name[0], end) for (start, end), name in zip(parts, names)]
 
 
@@ -71,7 +71,7 @@ def item_at(source, at, owner):
     while source[at] in QUALIFIERS and source[at + 2] != ":":
         at += 2 if source[at] == "extern" else 1
     if source[at] not in KEYWORDS:
-        source.refuse(at, f"an item that is not known, at `{source[at]}`")
+        source.refuse(at, f"unknown item at `{source[at]}`")
     item.kind, item.keyword = source[at], at
     if item.kind != "impl":
         at += 1
@@ -102,7 +102,7 @@ def skip_attributes(source, at, item):
 def read_function(source, at, item):
     """Reads a function from its parameters on."""
     if source[at] != "(":
-        source.refuse(at, "a function without parameters")
+        source.refuse(at, "a function without a parameter list")
     item.params = (at, source.closing(at))
     at = item.params[1] + 1
     if source[at] == "->":
@@ -112,14 +112,14 @@ def read_function(source, at, item):
             before = source[k - 1]
             behind = source.is_word(k - 1) and before not in ("dyn", "impl", "mut") or before in (">", ")", "]")
             if source.is_word(k) and behind:
-                source.refuse(k, f"a clause that is not known, at `{source[k]}`")
+                source.refuse(k, f"unknown clause at `{source[k]}`")
     if source[at] == "where":
         at = source.following(at, "{", ";", *CLAUSE_WORDS)
     while source[at] in CLAUSE_WORDS:
         start = at + 1 + (source[at + 1] == "*")
         start += source.is_word(start)
         if source[start] != "{":
-            source.refuse(start, f"a form of `{source[at]}` that is not known")
+            source.refuse(start, f"unknown form of `{source[at]}`")
         end = source.closing(start)
         item.clauses.append(Clause(source[at], source.words(start + 1, end), source.tokens[at].place))
         at = end + 1
@@ -127,7 +127,7 @@ def read_function(source, at, item):
         item.body = (at, source.closing(at))
         at = item.body[1]
     elif source[at] != ";":
-        source.refuse(at, f"a clause that is not known, at `{source[at]}`")
+        source.refuse(at, f"unknown clause at `{source[at]}`")
     item.end = at + 1
 
 
@@ -142,7 +142,7 @@ def read_block(source, at, item):
         elif source[at] == "for":
             item.trait, head = source.words(head, at), at + 1
         elif at >= len(source) - 1:
-            source.refuse(item.keyword, "an item that does not end")
+            source.refuse(item.keyword, "an item without an end")
         at += 1
     item.subject = source.words(head, where or at)
     if source[at] != ";":

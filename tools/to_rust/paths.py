@@ -31,7 +31,7 @@ def leaves_of(source, start, end):
     if at == end or source[at] == "as":
         return [(prefix, source[at + 1] if at < end else None)]
     if source.closing(at) + 1 != end:
-        source.refuse(at, "an import that is not known here: something follows its names")
+        source.refuse(at, "unknown import: something follows its names")
     leaves = [leaf for part in source.elements(at) for leaf in leaves_of(source, *part)]
     return [(prefix if path == "self" else f"{prefix}::{path}", name) for path, name in leaves]
 
@@ -74,7 +74,7 @@ def rewrite_roots(source):
         if source[at - 1] == "::" or source.tokens[at].edit is not None:
             continue
         if crate in STD and source[at - 1] != "use":
-            source.refuse(at, "a path of `std` in the middle of code")
+            source.refuse(at, "a path of `std` outside of an import")
         if home_of(crate) or crate in tables.PUBLIC_NAMES or crate in tables.BY_HAND:
             path = module_of(source, crate)
             if path is None:
@@ -128,7 +128,7 @@ class Reach:
             if item.owner is not None or not item.is_public():
                 continue
             if item.kind in ("type", "static") or item.kind == "mod" and item.body:
-                source.refuse(item.keyword, f"a public `{item.kind}`, by whose name functions would have no tests")
+                source.refuse(item.keyword, f"a public `{item.kind}`, through which functions could be called without their tests")
             elif item.kind == "use":
                 for leaf, alias in leaves_of(source, item.keyword + 1, item.end - 1):
                     self.follow(source, item, leaf.split("::"), f"{name}::{alias or leaf.rpartition('::')[2]}")
@@ -151,7 +151,7 @@ class Reach:
                 if path[-1] == (alias or leaf.rpartition("::")[2]):
                     self.follow(home, it, leaf.split("::"), name, (*passed, (crate, path)))
                     return
-        source.refuse(item.keyword, f"a public import that leads nowhere: {'::'.join(parts)}")
+        source.refuse(item.keyword, f"a public import of an unknown item: {'::'.join(parts)}")
 
     def is_public(self, source, item):
         """Returns whether users can call a function."""

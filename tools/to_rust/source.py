@@ -94,7 +94,7 @@ class Source:
     def note(self, rule, at, old, new=""):
         """Notes a change, and returns it. What was left out may be a part of a text or a comment."""
         if rule not in RULES:
-            self.refuse(at, f"a change by a rule that is not in the table: {rule}")
+            self.refuse(at, f"the table has no rule {rule}")
         self.edits.append(Edit(rule, old, new))
         return self.edits[-1]
 
@@ -113,7 +113,7 @@ class Source:
         end = at + 1
         while (text := self[end]) != closing:
             if text in (")", "]", "}", "") or closing == ">" and text == ";":
-                self.refuse(at, "a bracket does not close")
+                self.refuse(at, "an unclosed bracket")
             opens = text in CLOSING or closing == ">" and text == "<"
             end = self.closing(end) + 1 if opens else end + 1
         return end
@@ -141,11 +141,11 @@ class Source:
         text = "".join(token.lead + token.text for token in self.tokens)
         for token, read in zip(self.tokens, tokens_of(text, self.path)):
             if token.text != read.text:
-                raise Refused(token.place, f"`{token.text}` is read as `{read.text}`")
+                raise Refused(token.place, f"`{token.text}` is read back as `{read.text}`")
         left = iter(token.text for token in tokens_of(self.original, self.path))
         for token in self.tokens:
             if token.edit is None and token.text not in left:
-                raise Refused(token.place, f"`{token.text}` is no token of the source in its order")
+                raise Refused(token.place, f"`{token.text}` is not the next token of the source")
         return text
 
 

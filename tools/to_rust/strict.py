@@ -45,7 +45,7 @@ class Names:
             elif path in tables.STD_NAMES:
                 self.called.add(name or path.rpartition("::")[2])
             else:
-                source.refuse(item.keyword, f"a path of `std` that is not known: {path}")
+                source.refuse(item.keyword, f"unknown path of `std`: {path}")
 
 
 def check(source, names):
@@ -56,11 +56,11 @@ def check(source, names):
     end = 0
     for at in range(len(source)):
         if source[at] in KEYWORDS - {"fn", "use", "const", "type"} and at in bodies:
-            source.refuse(at, f"an item in the body of a function, at `{source[at]}`")
+            source.refuse(at, f"an item inside a function body, at `{source[at]}`")
         if source[at] == "use":
             end = imports.get(at, at)
             if at == end or source[at + 1] not in (*STD, *names.others):
-                source.refuse(at, f"an import that is not known here: {source[at + 1]}")
+                source.refuse(at, f"unknown import: {source[at + 1]}")
         if at < end:
             continue
         if source[at] == "#" and source[at + 1] in ("[", "!"):
@@ -71,7 +71,7 @@ def check(source, names):
             check_mark(source, at)
     strange = [at for at in range(len(source)) if class_of(source, at) not in PAIRS.get(class_of(source, at - 1), ())]
     # What else is refused says more, so this waits.
-    source.strange = [Refused(source.tokens[at].place, f"`{source[at]}` is not known behind `{source[at - 1]}`") for at in strange]
+    source.strange = [Refused(source.tokens[at].place, f"`{source[at]}` may not follow `{source[at - 1]}`") for at in strange]
 
 
 def class_of(source, at):
@@ -89,18 +89,18 @@ def check_mark(source, at):
     ends = source.kind(at - 1) in LITERALS or before in (")", "]", "?", ">", "self") \
         or source.is_word(at - 1) and before not in KNOWN["keywords"]
     if mark == "::" and not ends and before not in ("Self", "crate", "super"):
-        source.refuse(at, f"a path that is not known: ::{after}")
+        source.refuse(at, f"unknown path: ::{after}")
     if mark == "<" and not ends and before not in ("<", "::", "impl", "for", "fn"):
         member = f"<>::{source[source.closing(at) + 2]}"
         if member not in KNOWN["members"]:
-            source.refuse(at, f"a path that is not known: {member}")
+            source.refuse(at, f"unknown path: {member}")
     last = source.closing(at) - 1 if mark == "[" and not ends else at
     ranges = source[last] == ".." and (ends if last == at else source[last - 1] not in ("[", ",", "@"))
     if ranges and source[last + 1] in (")", ",", ";", "{", "}") + ("]",) * (last != at):
-        source.refuse(at, "a range without an end, which Rattle ends below the top of its type")
+        source.refuse(at, "a range without an end, which in Rattle ends below the maximum of its type")
     base = range(at, source.following(at, "}", ")", "]") if mark == ".." and before == "," else at)
     if "[" in [source[k] for k in base] and (source.is_word(at + 1) or after == "("):
-        source.refuse(at, "a base at an index, which Rattle does not read where all fields are written")
+        source.refuse(at, "a struct base at an index, which Rattle does not read if all fields are given")
 
 
 def check_word(source, at, names, here):
@@ -108,38 +108,38 @@ def check_word(source, at, names, here):
     word, before, after = source[at], source[at - 1], source[at + 1]
     plain = word not in KNOWN["keywords"] | KNOWN["reserved"]
     if word in KNOWN["reserved"] or word == "mut" and before == "static":
-        source.refuse(at, f"a word that is not known here: {word}")
+        source.refuse(at, f"unknown word: {word}")
     if after == "!" and (plain or source[at + 2] in ("(", "[", "{")) and word not in KNOWN["macros"]:
-        source.refuse(at, f"a macro that is not known: {word}!")
+        source.refuse(at, f"unknown macro: {word}!")
     if after == "!" and word in WRITING:
         for k in range(at, source.closing(at + 2)):
             forms = FORMAT.findall(source[k]) if source.kind(k) == "string" else []
             if set(forms) - KNOWN["formats"]:
-                source.refuse(k, f"a format that is not known: {' '.join(forms)}")
+                source.refuse(k, f"unknown format: {' '.join(forms)}")
     if before == "." and after in ("(", "::"):
         if word not in names.methods:
-            source.refuse(at, f"a method that is not known: {word}")
+            source.refuse(at, f"unknown method: {word}")
     elif after == "::":
         end = source.closing(at + 2) if source[at + 2] == "<" else at
         member = source[end + 2] if source[end + 1] == "::" else "<"
         own = word in names.others or len(word) == 1 and word.isupper()
         own = own or source[at + 2] == "<" and word in names.functions
         if not own and f"{word}::{member}" not in KNOWN["members"]:
-            source.refuse(at, f"a path that is not known: {word}::{member}")
+            source.refuse(at, f"unknown path: {word}::{member}")
     elif before != "::" and word[0].isupper() and not word.isupper() and word not in names.types:
-        source.refuse(at, f"a type that is not known: {word}")
+        source.refuse(at, f"unknown type: {word}")
     elif after == "(" and before not in ("::", "fn") and plain and word not in names.called and word not in here:
-        source.refuse(at, f"a call that is not known: {word}")
+        source.refuse(at, f"unknown call: {word}")
 
 
 def check_attribute(source, at):
     """Refuses an attribute or a derive that is not known."""
     name = at + (3 if source[at + 1] == "!" else 2)
     if source[name] not in KNOWN["attributes"] and not exports.is_form(source, name):
-        source.refuse(at, f"an attribute that is not known: {source[name]}")
+        source.refuse(at, f"unknown attribute: {source[name]}")
     for k in range(name + 2, source.closing(name + 1)) if source[name] == "derive" else ():
         if source.is_word(k) and source[k] not in KNOWN["derives"]:
-            source.refuse(k, f"a derive that is not known: {source[k]}")
+            source.refuse(k, f"unknown derive: {source[k]}")
 
 
 def check_output(source):
@@ -148,6 +148,6 @@ def check_output(source):
     for at, token in enumerate(source.tokens):
         made_path = source.matches(at, "alloc ::") and token.edit is not None
         if token.kind == "strange" or token.kind == "word" and token.text in left_over and not made_path:
-            source.refuse(at, f"`{token.text}` is left over")
+            source.refuse(at, f"`{token.text}` is left in the output")
     if source.strange:
         raise source.strange[0]
