@@ -1,6 +1,6 @@
 """The items of a source: functions with their clauses, types, traits, implementations and modules.
 
-Only what stands outside of bodies is read here. A form of item that is not known is refused.
+This module reads only the text outside of function bodies. An unknown form of an item is rejected.
 """
 
 from collections import namedtuple
@@ -9,13 +9,13 @@ KEYWORDS = {"fn", "struct", "enum", "trait", "impl", "mod", "use", "const", "sta
 QUALIFIERS = {"const", "unsafe", "final", "extern"}
 CLAUSE_WORDS = ("requires", "ensures")
 
-# A `requires` or an `ensures`, what it says, and where it stands.
+# A `requires` or an `ensures`: its keyword, its text, and its place.
 Clause = namedtuple("Clause", "word text place")
 
 
 class Item:
-    """An item: its kind, its name, and where its parts stand, as numbers of tokens. `head` is where it begins after its
-    text and attributes; `subject` is the type that an `impl` is for, and `trait` the trait that it is of."""
+    """An item: its kind, its name, and the token numbers of its parts. `head` is its beginning after its doc comment and
+    its attributes. `subject` is the type of an `impl`, and `trait` is its trait."""
 
     def __init__(self, start, owner=None):
         self.start, self.owner = start, owner
@@ -25,12 +25,12 @@ class Item:
         self.head = self.keyword = self.end = start
 
     def is_public(self):
-        """Returns whether the item is `pub`, with nothing that limits it."""
+        """Returns whether the item is `pub` without a restriction."""
         return self.visible is not None and self.visible[1] - self.visible[0] == 1
 
 
 def items_of(source, start=0, end=None, owner=None):
-    """Returns the items between two places, each before those inside it."""
+    """Returns the items between two places. Each item comes before the items inside it."""
     found, at = [], start
     while at < (len(source) - 1 if end is None else end):
         if source[at].startswith("//!"):
@@ -47,12 +47,12 @@ def items_of(source, start=0, end=None, owner=None):
 
 
 def functions_of(source):
-    """Returns the functions, those of implementations and traits too."""
+    """Returns the functions, including the functions of implementations and traits."""
     return [item for item in items_of(source) if item.kind == "fn"]
 
 
 def parameters_of(source, item):
-    """Returns where each parameter of a function begins, where its name, which may be `self`, stands, and its end."""
+    """Returns the beginning, the place of the name, which may be `self`, and the end of each parameter of a function."""
     parts = source.elements(item.params[0], types=True)
     names = [[at for at in range(start, end) if source.is_word(at) and source[at] != "mut"]
              if source.words(start, end).count(" = ") == 0 else [] for start, end in parts]
@@ -88,7 +88,7 @@ def item_at(source, at, owner):
 
 
 def skip_attributes(source, at, item):
-    """Passes documentation and attributes, which the item notes."""
+    """Skips doc comments and attributes, and records them in the item."""
     while source.kind(at) == "doc" or source[at] == "#":
         end = source.closing(at + 1) + 1 if source[at] == "#" else at + 1
         if source[at] == "#":
@@ -100,7 +100,7 @@ def skip_attributes(source, at, item):
 
 
 def read_function(source, at, item):
-    """Reads a function from its parameters on."""
+    """Reads a function, beginning with its parameters."""
     if source[at] != "(":
         source.refuse(at, "a function without a parameter list")
     item.params = (at, source.closing(at))
@@ -132,7 +132,7 @@ def read_function(source, at, item):
 
 
 def read_block(source, at, item):
-    """Reads an `impl`, a trait, a struct, an enum or a module after its types' parameters, but not its body."""
+    """Reads an `impl`, a trait, a struct, an enum or a module after its type parameters, without its body."""
     head, where = at, None
     while source[at] not in ("{", ";") and (source[at] != "(" or item.kind == "impl"):
         if source[at] == "<":

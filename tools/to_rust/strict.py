@@ -1,4 +1,4 @@
-"""What a source may hold: each macro, attribute, type, method, call, path and format that is not its own stands in
+"""Rejects unknown names: each macro, attribute, type, method, call, path and format must be defined by a source or be in
 `known.md`."""
 
 import re
@@ -10,7 +10,7 @@ from .tables import rows_of
 from .tokens import Refused
 
 KNOWN = {kind: set(words.split()) for kind, words in rows_of("known.md", "kind | words")}
-# What may stand behind what: marks and keywords, and kinds of all other tokens.
+# The allowed neighbors: marks and keywords by their text, all other tokens by their kind.
 PAIRS = {before: set(words.split()) for before, words in rows_of("known.md", "token | behind it")}
 WRITING = {"eprintln", "format", "unreachable", "write", "writeln"}
 FORMAT = re.compile(r"\{[^{}]*:([^{}]*)\}")
@@ -20,7 +20,7 @@ LEFT_OVER = {"ghost", "requires", "ensures", "Drop", "Model", "Global", "alloc",
 
 
 class Names:
-    """The names that are known, those of the sources too. A path of `std` that is not is refused."""
+    """The known names, including the names that the sources define. An unknown path of `std` is rejected."""
 
     def __init__(self, sources):
         self.functions, self.others, self.called = set(), KNOWN["keywords"] | set(tables.BY_HAND), set(KNOWN["calls"])
@@ -38,7 +38,7 @@ class Names:
         self.called |= KNOWN["attributes"] | self.functions | self.types
 
     def add_import(self, source, item):
-        """Adds the names that an import gives. A name of `std` may be called, but what it has is not known by it."""
+        """Adds the names of an import. A name of `std` may be called, but its members are not known."""
         for path, name in leaves_of(source, item.keyword + 1, item.end - 1):
             if path.split("::")[0] not in STD:
                 self.others.update([name] if name else [])
@@ -49,7 +49,7 @@ class Names:
 
 
 def check(source, names):
-    """Refuses what is not known. Ghosts and contracts are already left out."""
+    """Rejects unknown forms. Ghosts and contracts are already removed."""
     imports = {item.keyword: item.end for item in items_of(source) if item.kind == "use"}
     here = {source[at] for at in range(len(source)) if source[at + 1] == ":" or source[at - 1] == "let"}
     bodies = {at for item in items_of(source) if item.kind == "fn" and item.body for at in range(*item.body)}
@@ -70,12 +70,12 @@ def check(source, names):
         elif source.kind(at) in ("mark", "strange"):
             check_mark(source, at)
     strange = [at for at in range(len(source)) if class_of(source, at) not in PAIRS.get(class_of(source, at - 1), ())]
-    # What else is refused says more, so this waits.
+    # Other errors are more specific, so this error waits.
     source.strange = [Refused(source.tokens[at].place, f"`{source[at]}` may not follow `{source[at - 1]}`") for at in strange]
 
 
 def class_of(source, at):
-    """Returns what a token counts as beside another one: a mark and a keyword as themselves, all else as its kind."""
+    """Returns the class of a token in the table of neighbors: a mark or a keyword itself, or the kind of another token."""
     form = next((form for form in ("pub ( crate )", "pub (") if source.matches(at - form.count(" "), form)), None)
     if form:
         return form.replace(" ", "")
@@ -84,7 +84,7 @@ def class_of(source, at):
 
 
 def check_mark(source, at):
-    """Refuses a mark that is not known in its place: no mark of code, or one in front of a path or behind a range."""
+    """Rejects a mark in an unknown place: a strange mark, or a mark before a path or after a range."""
     mark, before, after = source[at], source[at - 1], source[at + 1]
     ends = source.kind(at - 1) in LITERALS or before in (")", "]", "?", ">", "self") \
         or source.is_word(at - 1) and before not in KNOWN["keywords"]
@@ -104,7 +104,7 @@ def check_mark(source, at):
 
 
 def check_word(source, at, names, here):
-    """Refuses a word that is not known in its place: of a path, a call, a macro, a type, or beside another word."""
+    """Rejects a word in an unknown place: as a part of a path, a call, a macro or a type, or next to another word."""
     word, before, after = source[at], source[at - 1], source[at + 1]
     plain = word not in KNOWN["keywords"] | KNOWN["reserved"]
     if word in KNOWN["reserved"] or word == "mut" and before == "static":
@@ -133,7 +133,7 @@ def check_word(source, at, names, here):
 
 
 def check_attribute(source, at):
-    """Refuses an attribute or a derive that is not known."""
+    """Rejects an unknown attribute or derive."""
     name = at + (3 if source[at + 1] == "!" else 2)
     if source[name] not in KNOWN["attributes"] and not exports.is_form(source, name):
         source.refuse(at, f"unknown attribute: {source[name]}")
@@ -143,7 +143,7 @@ def check_attribute(source, at):
 
 
 def check_output(source):
-    """Refuses what must not be left of Rattle. A program that opens files keeps the handle by which it does."""
+    """Rejects terms that only Rattle has in the output. A program that opens files keeps its handle of the system."""
     left_over = LEFT_OVER - tables.HANDLES if home_of(source.crate) in tables.WITH_HANDLES else LEFT_OVER
     for at, token in enumerate(source.tokens):
         made_path = source.matches(at, "alloc ::") and token.edit is not None
