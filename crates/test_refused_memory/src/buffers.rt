@@ -46,7 +46,7 @@ fn clone_of_a_buffer(rt: &HostRuntime) -> Option<()> {
     match entries.clone(rt.alloc()) {
         Ok(copy) => {
             let was_equal = copy == entries;
-            if let Some(entry) = entries.get_mut(5) {
+            if let Some(entry) = entries.get_mut_after(2, 3) {
                 *entry = 0;
             }
             show(rt, &(was_equal, copy == entries, copy.as_slice()));

@@ -1,5 +1,5 @@
 //! The buffer of a plane: a list of fixed length.
-ghost use Rattle.std.specs.Prelude.{◌≡◌, ◌<◌, ◌≤◌, All, [], length, map, replicate, None, Some, IsSome, slice_get, slice_range, IsOk, IfOk, IfErr};
+ghost use Rattle.std.specs.Prelude.{◌+◌, ◌≡◌, ◌<◌, ◌≤◌, All, [], length, map, replicate, None, Some, IsSome, slice_get, slice_range, IsOk, IfOk, IfErr};
 ghost use Rattle.std.specs.Cmp.Lexicographic.{pointwise, lists_per, lists_equiv};
 ghost use Rattle.std.specs.Option.{option_copied_mut};
 ghost use Rattle.std.specs.Borrow.{sem};
@@ -111,15 +111,18 @@ impl<T> AlignedData<T> {
         entry_of(self.as_mut_slice(), place)
     }
 
-    /// Returns the entry at index `place`, for writing, where there is one.
-    pub fn get_mut(&mut self, place: usize) -> Option<&mut T>
-        ensures* writes_back { sem 𝓛 (LendsEntryIf T.row self.entry place result) }
-        ensures value { option_copied_mut result ≡ slice_get self.old place }
+    /// Returns the entry `offset` places after index `start`, for writing. Returns `None` if the buffer ends before that entry.
+    ///
+    /// `start` must be at most the length of the buffer.
+    pub fn get_mut_after(&mut self, start: usize, offset: usize) -> Option<&mut T>
+        requires { start ≤ length self.old }
+        ensures* writes_back { sem 𝓛 (LendsEntryIf T.row self.entry (start + offset) result) }
+        ensures value { option_copied_mut result ≡ slice_get self.old (start + offset) }
     {
-        if place >= self.len {
+        if offset >= self.len - start {
             return None;
         }
-        Some(self.entry_mut(place))
+        Some(self.entry_mut(start + offset))
     }
 }
 

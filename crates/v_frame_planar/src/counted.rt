@@ -112,11 +112,12 @@ impl<D> Counted<D> {
 }
 
 impl<D: io::Read> Counted<D> {
-    /// Calls `read` of the reader once. An error of it is counted, an interrupted read too.
+    /// Calls `read` of the reader once. If that call fails, also if it is interrupted, the failure is counted.
     ///
     /// # Errors
     ///
-    /// The reader's.
+    /// The error of the reader; [`InvalidData`](io::ErrorKind::InvalidData) if the reader claims to have read more bytes than
+    /// `buf` holds.
     pub fn read(&mut self, buf: &mut [u8]) -> io::Result<usize>
         ensures bound { ReadsAtMost result buf.new }
         ensures bytes { ReadConsumes (D.remaining self.old.inner) (D.remaining self.new.inner)
@@ -126,18 +127,22 @@ impl<D: io::Read> Counted<D> {
         ensures told { MatchResult result (λ _. self.new.last_failure ≡ self.old.last_failure)
             (λ error. self.new.last_failure ≡ Some (error_kind error)) }
     {
-        let result = self.inner.read(buf);
+        let result = match self.inner.read(buf) {
+            Ok(count) if count > buf.len() => Err(io::Error::from(io::ErrorKind::InvalidData)),
+            result => result,
+        };
         self.note(&result);
         result
     }
 }
 
 impl<D: io::Write> Counted<D> {
-    /// Calls `write` of the writer once. An error of it is counted, an interrupted write too.
+    /// Calls `write` of the writer once. If that call fails, also if it is interrupted, the failure is counted.
     ///
     /// # Errors
     ///
-    /// The writer's.
+    /// The error of the writer; [`InvalidData`](io::ErrorKind::InvalidData) if the writer claims to have written more bytes
+    /// than `buf` holds.
     pub fn write(&mut self, buf: &[u8]) -> io::Result<usize>
         ensures bound { WritesAtMost result buf.now }
         ensures bytes { WriteAppends (D.contents self.old.inner) (D.contents self.new.inner)
@@ -147,7 +152,10 @@ impl<D: io::Write> Counted<D> {
         ensures told { MatchResult result (λ _. self.new.last_failure ≡ self.old.last_failure)
             (λ error. self.new.last_failure ≡ Some (error_kind error)) }
     {
-        let result = self.inner.write(buf);
+        let result = match self.inner.write(buf) {
+            Ok(count) if count > buf.len() => Err(io::Error::from(io::ErrorKind::InvalidData)),
+            result => result,
+        };
         self.note(&result);
         result
     }

@@ -1,6 +1,6 @@
 //! Where the visible pixels of a geometry are in its buffer.
-ghost use Rattle.std.specs.Prelude.{◌≡◌, ◌+◌, ◌*◌, ◌<◌, ◌≤◌, min};
-ghost use Rattle.v_frame_raster.specs.Geometry.{alloc_size_of, IsGeometry, Fits, usize_max, origin_of, place_of, stride_of};
+ghost use Rattle.std.specs.Prelude.{◌≡◌, ◌+◌, ◌*◌, ◌<◌, ◌≤◌, IfSome, IsNone};
+ghost use Rattle.v_frame_raster.specs.Geometry.{alloc_size_of, IsGeometry, Fits, place_of};
 
 use v_frame_raster::geometry::PlaneGeometry;
 
@@ -26,16 +26,18 @@ pub fn visible_place(geometry: PlaneGeometry, x: usize, y: usize) -> usize
     row_start(geometry, y) + x
 }
 
-/// Returns how far a visible pixel is behind the first one in the buffer.
-#[tactic(auto, using(v_frame_raster::proofs::Plans::row_start_within))]
-pub fn visible_offset(geometry: PlaneGeometry, x: usize, y: usize) -> usize
-    requires fits { Fits geometry }
-    requires wide { x < geometry.width }
-    requires high { y < geometry.height }
-    ensures place { origin_of geometry + result ≡ place_of geometry x y }
-    ensures within { origin_of geometry + result < alloc_size_of geometry }
+/// Returns the index of column 0 of row `y` in the buffer. Returns `None` if the buffer ends before that index.
+#[tactic(auto, using(v_frame_raster::proofs::Plans::row_in_buffer, v_frame_raster::proofs::Plans::no_row_in_buffer))]
+pub fn row_in_buffer(geometry: PlaneGeometry, y: usize) -> Option<usize>
+    requires { Fits geometry }
+    ensures place { IfSome result (λ start. start ≡ place_of geometry 0 y) }
+    ensures within { IfSome result (λ start. start < alloc_size_of geometry) }
+    ensures none { IsNone result → alloc_size_of geometry ≤ place_of geometry 0 y }
 {
-    geometry.stride() * y + x
+    if y >= geometry.height() + geometry.pad_bottom() {
+        return None;
+    }
+    Some(geometry.data_origin() + geometry.stride() * y)
 }
 
 /// Returns the number of visible pixels.
@@ -46,20 +48,4 @@ pub fn visible_size(geometry: PlaneGeometry) -> usize
     ensures valid { IsGeometry geometry }
 {
     geometry.width() * geometry.height()
-}
-
-/// Returns the index of (x, y), which may be past the end of the buffer; `usize::MAX`, which is past the end of any, where no
-/// `usize` holds it.
-pub fn saturated_place(geometry: PlaneGeometry, x: usize, y: usize) -> usize
-    requires { Fits geometry }
-    ensures { result ≡ min (place_of geometry x y) usize_max }
-{
-    saturated_offset(geometry, x, y).saturating_add(geometry.data_origin())
-}
-
-/// Returns how far (x, y) is behind the first visible pixel in the buffer; `usize::MAX` where no `usize` holds it.
-pub fn saturated_offset(geometry: PlaneGeometry, x: usize, y: usize) -> usize
-    ensures { result ≡ min (x + y * stride_of geometry) usize_max }
-{
-    geometry.stride().saturating_mul(y).saturating_add(x)
 }

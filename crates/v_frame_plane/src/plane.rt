@@ -37,7 +37,7 @@ pub use crate::bytes::ByteData;
 pub use crate::error::CopyError;
 pub use crate::pixels::Pixels;
 pub use crate::pixels_mut::PixelsMut;
-use crate::place::{row_start, saturated_place, visible_place};
+use crate::place::{row_in_buffer, row_start, visible_place};
 pub use crate::plane_ref::PlaneRef;
 pub use crate::rows::Rows;
 pub use crate::rows_mut::RowsMut;
@@ -324,22 +324,8 @@ impl<T: Pixel> Plane<T> {
         ensures written { x < self.old.geometry.width → y < self.old.geometry.height
             → WritesEachPixel self.old x y }
     {
-        if x < self.width() && y < self.height() {
-            return Some(self.visible_pixel_mut(x, y));
-        }
-        self.checked_entry_mut(x, y)
-    }
-
-    /// Returns the entry at the index of (x, y) for writing, `None` past the end of the buffer.
-    fn checked_entry_mut(&mut self, x: usize, y: usize) -> Option<&mut T>
-        ensures* writes_back { sem 𝓛 (LendsPixel T.row self.entry x y result) }
-        ensures value { option_copied_mut result
-            ≡ slice_get self.old.buffer (place_of self.old.geometry x y) }
-        ensures none { IsNone result
-            ↔ (alloc_size_of self.old.geometry ≤ place_of self.old.geometry x y) }
-    {
-        let place = saturated_place(self.geometry, x, y);
-        self.buffer.get_mut(place)
+        let start = row_in_buffer(self.geometry, y)?;
+        self.buffer.get_mut_after(start, x)
     }
 
     /// Returns a double-ended iterator over the visible pixels, row after row from the top.

@@ -8,7 +8,7 @@ ghost use Rattle.v_frame_raster.specs.Raster.{IsWhole, raster, table_of, whole_r
 
 use crate::bytes::ByteData;
 use crate::pixels::Pixels;
-use crate::place::{row_start, saturated_offset, visible_offset, visible_place, visible_size};
+use crate::place::{row_in_buffer, row_start, visible_place, visible_size};
 use crate::rows::Rows;
 use crate::rows_ref::RowsRef;
 use crate::strided::encode_rows;
@@ -219,10 +219,10 @@ impl<'a, T> PlaneRef<'a, T> {
 }
 
 impl<'a, T: Copy> PlaneRef<'a, T> {
-    /// Returns the entry at the index of column `x` and row `y`. `None` exactly where that index is past the end of the
+    /// Returns the entry at the index of column `x` and row `y`. Returns `None` exactly if that index is past the end of the
     /// buffer.
     ///
-    /// The visible rectangle is tested first: there no sum can be too large.
+    /// Past the visible width the index is in the border, or in the next row if the plane has no border there.
     pub fn pixel(&self, x: usize, y: usize) -> Option<T>
         ensures value { result ≡ slice_get self.now.buffer (place_of self.now.geometry x y) }
         ensures none { IsNone result
@@ -230,19 +230,17 @@ impl<'a, T: Copy> PlaneRef<'a, T> {
         ensures inside { x < self.now.geometry.width → y < self.now.geometry.height
             → result ≡ pixel_at (table_of self.now) x y }
     {
-        // In a loop these are found once, and each place has one sum less.
-        let shown = self.entries_from_origin();
-        if x < self.geometry.width() && y < self.geometry.height() {
-            return Some(shown[visible_offset(self.geometry, x, y)]);
-        }
-        shown.get(saturated_offset(self.geometry, x, y)).copied()
+        // A loop over `x` tests the row once, before its first pixel. So each pixel costs one comparison.
+        let start = row_in_buffer(self.geometry, y)?;
+        self.entries_from(start).get(x).copied()
     }
 
-    /// Returns the entries of the buffer from the first visible pixel on.
-    fn entries_from_origin(&self) -> &'a [T]
-        ensures { result.now ≡ drop (origin_of self.now.geometry) self.now.buffer }
+    /// Returns the entries of the buffer from index `start` on. `start` must be at most the length of the buffer.
+    fn entries_from(&self, start: usize) -> &'a [T]
+        requires { start ≤ length self.now.buffer }
+        ensures { result.now ≡ drop start self.now.buffer }
     {
-        &self.buffer[self.geometry.data_origin()..]
+        &self.buffer[start..]
     }
 
     /// Returns the visible pixel of column `x` in row `y`, which must be below [`width`](Self::width) and

@@ -94,6 +94,22 @@ row_start_within g origin stride y o s h =
     let high : 0 < g.height = omega arith in
     omega (arith, place_of_row g y high, row_within g y h, ap (λ k. k * y) s)
 
+-- column 0 of a row above the end of the buffer's last row has an index in the buffer, as the code computes it
+pub row_in_buffer : (g : Geometry) (origin stride y : ℕ) → origin ≡ origin_of g → stride ≡ stride_of g → IsGeometry g
+    → y < g.height + g.pad_bottom → (origin + stride * y ≡ place_of g 0 y) × (origin + stride * y < alloc_size_of g)
+row_in_buffer g origin stride y o s is h =
+    let at = place_of_row g y is.high in
+    let above : g.pad_top + y + 1 ≤ g.height + g.pad_top + g.pad_bottom = omega arith in
+    let step = ap (λ k. k * y) s in
+    (omega (arith, o, step), omega (arith, o, step, origin_is g is.high, mul-le-mul_right (stride_of g) above, is.wide))
+
+-- column 0 of a row below has no index in the buffer
+pub no_row_in_buffer : (g : Geometry) (y : ℕ) → IsGeometry g → g.height + g.pad_bottom ≤ y
+    → alloc_size_of g ≤ place_of g 0 y
+no_row_in_buffer g y is h =
+    let below : g.height + g.pad_top + g.pad_bottom ≤ g.pad_top + y = omega arith in
+    omega (arith, origin_is g is.high, mul-le-mul_right (stride_of g) below)
+
 -- the origin lies in front of the first row, which lies in the buffer
 pub origin_within : (g : Geometry) → 0 < g.height → origin_of g + g.width ≤ alloc_size_of g
 origin_within g h = omega (arith, place_of_row g 0 h, row_within g 0 h)

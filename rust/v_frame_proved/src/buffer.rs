@@ -76,7 +76,9 @@ impl<T> AlignedData<T> {
     /// Returns the entries.
     #[inline]
     pub fn as_slice(&self) -> &[T] {
-        &self.entries[self.start..]
+        // `start` is at most the length. A slice expression would add a second exit to each loop that reads a pixel, and the
+        // compiler would not vectorize some of these loops.
+        self.entries.get(self.start..).unwrap_or_default()
     }
 
     /// Returns the entries, for writing.
@@ -97,10 +99,14 @@ impl<T> AlignedData<T> {
         &mut self.as_mut_slice()[place]
     }
 
-    /// Returns the entry at index `place`, for writing, where there is one.
+    /// Returns the entry `offset` places after index `start`, for writing. Returns `None` if the buffer ends before that entry.
+    ///
+    /// # Panics
+    ///
+    /// Panics if `start` is greater than the length of the buffer.
     #[inline]
-    pub fn get_mut(&mut self, place: usize) -> Option<&mut T> {
-        self.as_mut_slice().get_mut(place)
+    pub fn get_mut_after(&mut self, start: usize, offset: usize) -> Option<&mut T> {
+        self.as_mut_slice()[start..].get_mut(offset)
     }
 }
 

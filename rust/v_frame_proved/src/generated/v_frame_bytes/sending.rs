@@ -47,8 +47,11 @@ impl From<SendError> for io::Error {
 ///
 /// # Errors
 ///
-/// [`SendError::Write`] where a write failed, an interrupted one too, which is not tried again, and [`SendError::WriteZero`]
-/// where a write took none of the bytes that it was offered. Then a beginning of the bytes was written.
+/// - [`SendError::Write`] if a write fails. An interrupted write counts as a failure and is not retried. A writer that claims
+///   to have written more bytes than `send` offered fails with [`ErrorKind::InvalidData`].
+/// - [`SendError::WriteZero`] if a write takes none of the bytes that `send` offered.
+///
+/// After an error, `out` has received a prefix of `bytes`.
 ///
 /// # Examples
 ///
@@ -74,6 +77,9 @@ pub fn send<W: io::Write>(out: &mut W, bytes: &[u8]) -> Result<(), SendError> {
     while written < bytes.len() {
         match out.write(&bytes[written..]) {
             Ok(0) => return Err(SendError::WriteZero),
+            Ok(count) if count > bytes.len() - written => {
+                return Err(SendError::Write(io::Error::from(ErrorKind::InvalidData)));
+            }
             Ok(count) => written += count,
             Err(error) => return Err(SendError::Write(error)),
         }

@@ -121,28 +121,36 @@ impl<D> Counted<D> {
 }
 
 impl<D: io::Read> Counted<D> {
-    /// Calls `read` of the reader once. An error of it is counted, an interrupted read too.
+    /// Calls `read` of the reader once. If that call fails, also if it is interrupted, the failure is counted.
     ///
     /// # Errors
     ///
-    /// The reader's.
+    /// The error of the reader; [`InvalidData`](io::ErrorKind::InvalidData) if the reader claims to have read more bytes than
+    /// `buf` holds.
     #[inline]
     pub fn read(&mut self, buf: &mut [u8]) -> io::Result<usize> {
-        let result = self.inner.read(buf);
+        let result = match self.inner.read(buf) {
+            Ok(count) if count > buf.len() => Err(io::Error::from(io::ErrorKind::InvalidData)),
+            result => result,
+        };
         self.note(&result);
         result
     }
 }
 
 impl<D: io::Write> Counted<D> {
-    /// Calls `write` of the writer once. An error of it is counted, an interrupted write too.
+    /// Calls `write` of the writer once. If that call fails, also if it is interrupted, the failure is counted.
     ///
     /// # Errors
     ///
-    /// The writer's.
+    /// The error of the writer; [`InvalidData`](io::ErrorKind::InvalidData) if the writer claims to have written more bytes
+    /// than `buf` holds.
     #[inline]
     pub fn write(&mut self, buf: &[u8]) -> io::Result<usize> {
-        let result = self.inner.write(buf);
+        let result = match self.inner.write(buf) {
+            Ok(count) if count > buf.len() => Err(io::Error::from(io::ErrorKind::InvalidData)),
+            result => result,
+        };
         self.note(&result);
         result
     }

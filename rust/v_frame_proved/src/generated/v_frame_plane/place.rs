@@ -17,11 +17,14 @@ pub fn visible_place(geometry: PlaneGeometry, x: usize, y: usize) -> usize {
     row_start(geometry, y) + x
 }
 
-/// Returns how far a visible pixel is behind the first one in the buffer.
+/// Returns the index of column 0 of row `y` in the buffer. Returns `None` if the buffer ends before that index.
 #[inline]
 #[must_use]
-pub fn visible_offset(geometry: PlaneGeometry, x: usize, y: usize) -> usize {
-    geometry.stride() * y + x
+pub fn row_in_buffer(geometry: PlaneGeometry, y: usize) -> Option<usize> {
+    if y >= geometry.height() + geometry.pad_bottom() {
+        return None;
+    }
+    Some(geometry.data_origin_proved() + geometry.stride() * y)
 }
 
 /// Returns the number of visible pixels.
@@ -29,19 +32,4 @@ pub fn visible_offset(geometry: PlaneGeometry, x: usize, y: usize) -> usize {
 #[must_use]
 pub fn visible_size(geometry: PlaneGeometry) -> usize {
     geometry.width() * geometry.height()
-}
-
-/// Returns the index of (x, y), which may be past the end of the buffer; `usize::MAX`, which is past the end of any, where no
-/// `usize` holds it.
-#[inline]
-#[must_use]
-pub fn saturated_place(geometry: PlaneGeometry, x: usize, y: usize) -> usize {
-    saturated_offset(geometry, x, y).saturating_add(geometry.data_origin_proved())
-}
-
-/// Returns how far (x, y) is behind the first visible pixel in the buffer; `usize::MAX` where no `usize` holds it.
-#[inline]
-#[must_use]
-pub fn saturated_offset(geometry: PlaneGeometry, x: usize, y: usize) -> usize {
-    geometry.stride().saturating_mul(y).saturating_add(x)
 }

@@ -63,7 +63,7 @@ pub use crate::generated::v_frame_plane::bytes::ByteData;
 pub use crate::generated::v_frame_plane::error::CopyError;
 pub use crate::generated::v_frame_plane::pixels::Pixels;
 pub use crate::generated::v_frame_plane::pixels_mut::PixelsMut;
-use crate::generated::v_frame_plane::place::{row_start, saturated_place, visible_place};
+use crate::generated::v_frame_plane::place::{row_in_buffer, row_start, visible_place};
 pub use crate::generated::v_frame_plane::plane_ref::PlaneRef;
 pub use crate::generated::v_frame_plane::rows::Rows;
 pub use crate::generated::v_frame_plane::rows_mut::RowsMut;
@@ -343,16 +343,8 @@ impl<T: Pixel> Plane<T> {
     /// faster. Ports `Plane::pixel_mut` of `v_frame` 0.7.0.
     #[inline]
     pub fn pixel_mut(&mut self, x: usize, y: usize) -> Option<&mut T> {
-        if x < self.width() && y < self.height() {
-            return Some(self.visible_pixel_mut_proved(x, y));
-        }
-        self.checked_entry_mut(x, y)
-    }
-
-    /// Returns the entry at the index of (x, y) for writing, `None` past the end of the buffer.
-    fn checked_entry_mut(&mut self, x: usize, y: usize) -> Option<&mut T> {
-        let place = saturated_place(self.geometry, x, y);
-        self.buffer.get_mut(place)
+        let start = row_in_buffer(self.geometry, y)?;
+        self.buffer.get_mut_after(start, x)
     }
 
     /// Returns a double-ended iterator over the visible pixels, row after row from the top.

@@ -3,7 +3,7 @@
 
 use crate::generated::v_frame_plane::bytes::ByteData;
 use crate::generated::v_frame_plane::pixels::Pixels;
-use crate::generated::v_frame_plane::place::{row_start, saturated_offset, visible_offset, visible_place, visible_size};
+use crate::generated::v_frame_plane::place::{row_in_buffer, row_start, visible_place, visible_size};
 use crate::generated::v_frame_plane::rows::Rows;
 use crate::generated::v_frame_plane::rows_ref::RowsRef;
 use crate::generated::v_frame_plane::strided::encode_rows;
@@ -218,24 +218,21 @@ impl<'a, T> PlaneRef<'a, T> {
 }
 
 impl<'a, T: Copy> PlaneRef<'a, T> {
-    /// Returns the entry at the index of column `x` and row `y`. `None` exactly where that index is past the end of the
+    /// Returns the entry at the index of column `x` and row `y`. Returns `None` exactly if that index is past the end of the
     /// buffer.
     ///
-    /// The visible rectangle is tested first: there no sum can be too large.
+    /// Past the visible width the index is in the border, or in the next row if the plane has no border there.
     #[inline]
     #[must_use]
     pub fn pixel(&self, x: usize, y: usize) -> Option<T> {
-        // In a loop these are found once, and each place has one sum less.
-        let shown = self.entries_from_origin();
-        if x < self.geometry.width() && y < self.geometry.height() {
-            return Some(shown[visible_offset(self.geometry, x, y)]);
-        }
-        shown.get(saturated_offset(self.geometry, x, y)).copied()
+        // A loop over `x` tests the row once, before its first pixel. So each pixel costs one comparison.
+        let start = row_in_buffer(self.geometry, y)?;
+        self.entries_from(start).get(x).copied()
     }
 
-    /// Returns the entries of the buffer from the first visible pixel on.
-    fn entries_from_origin(&self) -> &'a [T] {
-        &self.buffer[self.geometry.data_origin_proved()..]
+    /// Returns the entries of the buffer from index `start` on. `start` must be at most the length of the buffer.
+    fn entries_from(&self, start: usize) -> &'a [T] {
+        &self.buffer[start..]
     }
 
     /// Returns the visible pixel of column `x` in row `y`, which must be below [`width`](Self::width) and
