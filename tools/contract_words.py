@@ -101,13 +101,13 @@ class Words:
         taken = imported("\n".join(re.findall(r"ghost use .*", text)))
         used = [it for it in dict.fromkeys(re.findall(r"(?<![\w.])[A-Za-z]\w+", clauses)) if it in taken]
         links = [f"[`{it}`]({link})" for it in used if (link := self.link(*taken[it]))]
-        return [f"Words: {', '.join(links)}.", ""] if links else []
+        return [f"Terms: {', '.join(links)}.", ""] if links else []
 
     def table(self):
         """Returns the rows of the glossary, crate by crate."""
         told = []
         for crate, words in sorted(self.used.items()):
-            told += [f"## Words of `{crate}`", "", "| term | meaning | defined in |", "|---|---|---|"]
+            told += [f"## Terms of `{crate}`", "", "| term | meaning | defined in |", "|---|---|---|"]
             for word, path in sorted(words, key=lambda it: (it[0].lower(), it)):
                 home = path.relative_to(TOP)
                 idea = f", [MODEL]({MODEL[word, path.stem]})" if (word, path.stem) in MODEL else ""

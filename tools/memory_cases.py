@@ -101,7 +101,7 @@ def calls_in(path):
 
 
 def faults():
-    """Returns the faults of the list: a public function that allocates and has no case, or a row without such a function."""
+    """Returns the faults of the list: a public function that allocates and has no case, or a row of another function."""
     sources = [it for it in sorted(TOP.glob("crates/v_frame*/src/**/*.rt")) if "tests" not in it.parts]
     calls = [call for it in sources for call in calls_in(it)]
     from_c = [it.split("::") for it in calls if re.match(r"\w+_c::v_frame_", it)]
