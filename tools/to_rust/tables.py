@@ -72,6 +72,7 @@ PROOF_WORDS = (
     r"\b(requires|ensures)`",
     r"^Of the (readers|writers) over memory\b",
     r"^(Our own|The module is our own|Its functions and constants are our own)\b",
+    r"^Not part of `v_frame` 0\.7\.0\b",
 )
 # The paragraphs that are added to the documentation of modules.
 DOC_ADDED = {tuple(path.split()): text for path, text in rows_of("tables.md", "module | added paragraph")}
