@@ -64,7 +64,7 @@ def similarities(one, other, depth):
 
 
 class Comparison:
-    """Two streams, compared up to the end of the shorter one. Frames have their numbers in the first file, of which `passed` are skipped."""
+    """Two streams, compared up to the end of the shorter one. Frames have their numbers in the first file, with `passed` skipped."""
 
     def __init__(self, one, other, ssim=False, exact=False, before=0):
         self.depth, self.ssim, self.exact, self.before = one.depth, ssim, exact, before

@@ -42,7 +42,7 @@ def window_similarity(p, q, depth):
 
 
 def similarity(p, q, columns, rows, depth):
-    """Returns the mean over windows of 8 by 8 pixels at every fourth column and row. For pixels of two bytes, a line is added in 32 bits."""
+    """Returns the mean over windows of 8 by 8 pixels at every fourth place. For pixels of two bytes, a line is added in 32 bits."""
     total = 0.0
     across, down = columns // 4 - 1, rows // 4 - 1
     for y in range(down):
