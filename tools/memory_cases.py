@@ -1,13 +1,13 @@
-"""Which case of crates/test_refused_memory refuses the memory of which public call, and what its cases print."""
+"""The cases of crates/test_refused_memory: the public functions whose allocations they refuse, and the output of each case."""
 import re
 
 from source_items import TOP, File, methods, name_in, owner_of, signature
 
 CALLS, COMMANDS = TOP / "crates/test_refused_memory", TOP / "crates/test_refused_commands"
-# The tests that refuse each request of what these crates export.
+# The crates whose public functions the tests cover.
 CALLED_FROM_C = {f"{it}_c": TOP / f"c_interface/tests/test_{it}.c" for it in ("v_frame_png", "v_frame_y4m")}
 NO_MEMORY = "calls_that_take_no_memory"
-# The cases of each public call that takes an allocator: its crate, its module where that has a folder, its type and its name.
+# The cases of each public function with an allocator, by its crate, its module if it has a folder, its type and its name.
 CASES_OF_CALLS = {
     "v_frame::Frame::clone": ["clone_of_a_frame"],
     "v_frame::FrameBuilder::build": ["build"],
@@ -67,7 +67,7 @@ CASES_OF_CALLS = {
 
 
 def texts(path):
-    """The texts of a file, by the line of the case in front of each."""
+    """Returns the texts of a file, by the case that each line begins with."""
     found = {}
     pieces = re.split(r"^case (.+)\n", path.read_text(), flags=re.M)
     for case, text in zip(pieces[1::2], pieces[2::2]):
@@ -75,22 +75,22 @@ def texts(path):
     return found
 
 
-# The words and the text of each run of `yuv`.
+# The arguments and the text of each run of `yuv`.
 RUNS_OF_YUV = {case: (words.split(), them[0]) for it, them in texts(COMMANDS / "runs.txt").items() for case, words in [it.split(": ")]}
 
 
 def cases_of_the_program():
-    """The names of the cases, behind two numbers, as `rt ci` has the program make them."""
+    """Returns the names of the cases, after two numbers, as the arguments of the program in `rt ci`."""
     return (CALLS / "args").read_text().split()[2:]
 
 
 def takes_memory(told):
-    """Whether a signature has an allocator among its parameters."""
+    """Returns whether a signature has an allocator as a parameter."""
     return re.search(r"\balloc: (?:Global|&?A)\b", re.split(r"\n\s+(?:ensures|requires|where)", "\n".join(told))[0])
 
 
 def calls_in(path):
-    """The public calls of a file that take memory."""
+    """Returns the public functions of a file that allocate."""
     crate, _, *folders = path.relative_to(TOP / "crates").parts[:-1]
     at = "::".join([crate, *folders])
     for _, item, head in File(path).heads():
@@ -101,17 +101,17 @@ def calls_in(path):
 
 
 def faults():
-    """What is wrong with the list: a public call that takes memory and has no case, or a row of something that is not there."""
+    """Returns the faults of the list: a public function that allocates and has no case, or a row of another function."""
     sources = [it for it in sorted(TOP.glob("crates/v_frame*/src/**/*.rt")) if "tests" not in it.parts]
     calls = [call for it in sources for call in calls_in(it)]
     from_c = [it.split("::") for it in calls if re.match(r"\w+_c::v_frame_", it)]
     calls = [it for it in calls if it.split("::")[0] not in CALLED_FROM_C]
     cases, named = cases_of_the_program(), [case for them in CASES_OF_CALLS.values() for case in them]
     return [
-        *(f"{it} takes memory and has no case" for it in calls if it not in CASES_OF_CALLS),
-        *(f"{it} is no public call that takes memory" for it in CASES_OF_CALLS if it not in calls),
-        *(f"{it} is there more than once" for it in sorted(set(calls)) if calls.count(it) > 1),
+        *(f"{it} allocates and has no case" for it in calls if it not in CASES_OF_CALLS),
+        *(f"{it} is not a public function that allocates" for it in CASES_OF_CALLS if it not in calls),
+        *(f"{it} occurs more than once" for it in sorted(set(calls)) if calls.count(it) > 1),
         *(f"{CALLED_FROM_C[crate].name} doesn't call {it}" for crate, it in from_c if f"{it}(" not in CALLED_FROM_C[crate].read_text()),
         *(f"the program has no case {it}" for it in named if it not in cases),
-        *(f"the case {it} is of no call" for it in cases if it not in named and it != NO_MEMORY),
+        *(f"the case {it} belongs to no function" for it in cases if it not in named and it != NO_MEMORY),
     ]

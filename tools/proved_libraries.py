@@ -1,17 +1,17 @@
-"""The libraries that `rt ci` and `rt lib` leave in crates/NAME/out, and what a command of the toolchain is told of them."""
+"""The libraries that `rt ci` and `rt lib` leave in crates/NAME/out, and the arguments by which the toolchain finds them."""
 import re
 import shutil
 import sys
 from pathlib import Path
 
 TOP = Path(__file__).resolve().parent.parent
-KIT = Path(shutil.which("rt") or sys.exit("there is no rt on the path")).resolve().parent.parent
+KIT = Path(shutil.which("rt") or sys.exit("rt is not on the path")).resolve().parent.parent
 CRATES = {name: words.split() for name, words in re.findall(r"^(\w+)(?: staticlib)?:(.*)$", (TOP / "crates.txt").read_text(), re.M)}
 PARTS = ("src", "specs", "proofs")
 
 
 def below(name):
-    """The crates of the repository below a crate, lowest first."""
+    """Returns the crates of the repository below a crate, the lowest first."""
     found = []
     for dep in CRATES[name]:
         if dep in CRATES:
@@ -20,7 +20,7 @@ def below(name):
 
 
 def files_of(name):
-    """The files that a proof of a crate reads."""
+    """Returns the files that a proof of a crate reads."""
     return [it for part in PARTS for it in (TOP / f"crates/{name}/{part}").rglob("*") if it.is_file()]
 
 
@@ -29,9 +29,9 @@ def library(name):
 
 
 def first_old(names):
-    """The first of these libraries, given lowest first, that is not there, or is older than a file of it or of one below.
+    """Returns the first of these libraries, given lowest first, that is missing, or older than a file of it or of one below.
 
-    The folder has the time when the library was put there; its files may be links to what an earlier run on this machine kept.
+    The time of the folder is the time when the library was put there. Its files may be links to files of an earlier run.
     """
     newest = 0
     for name in names:
@@ -43,7 +43,7 @@ def first_old(names):
 
 
 def words_for(name):
-    """The words by which a command that checks or builds a crate finds what the crate stands on."""
+    """Returns the arguments with which a command finds the libraries below a crate."""
     kits = [it for it in ["std", *CRATES[name]] if it not in CRATES]
     return [
         "--links", f"{name}=",

@@ -9,7 +9,7 @@ CLAUSE = re.compile(r"^\s+(?:ensures|requires)")
 
 
 def items_of(lines, indent):
-    """The items at this indent, each as its doc comment and its other lines, without attributes."""
+    """Returns the items at this indentation, each as its doc comment and its other lines, without attributes."""
     pad, doc, item, in_body = " " * indent, [], [], False
     for line in lines:
         if not item:
@@ -29,7 +29,7 @@ def items_of(lines, indent):
 
 
 def signature(lines, indent):
-    """The signature and the clauses at the head of a function."""
+    """Returns the signature and the clauses of a function."""
     pad, taken = " " * indent, []
     for line in lines:
         if line in (pad + "{", pad + "{}"):
@@ -44,7 +44,7 @@ def signature(lines, indent):
 
 
 def body_start(item):
-    """The number of the line that opens the body of a type or an `impl`."""
+    """Returns the number of the line that opens the body of a type or an `impl`."""
     return next((k for k, line in enumerate(item) if line.endswith("{")), len(item))
 
 
@@ -56,7 +56,7 @@ class File:
         self.items = list(items_of(self.text.splitlines(), 0))
 
     def doc(self):
-        """The doc comment of the module."""
+        """Returns the doc comment of the module."""
         return [line[3:].removeprefix(" ") for line in self.text.splitlines() if line.startswith("//!")]
 
     def heads(self):
@@ -66,7 +66,7 @@ class File:
                 yield doc, item, found
 
     def names(self):
-        """What the file itself makes public."""
+        """Returns the public names that the file itself defines."""
         return {name_in(it) for _, _, it in self.heads() if it["pub"] and it["kind"] in ("fn", "struct", "enum", "trait")}
 
     def types(self):
@@ -78,7 +78,7 @@ def name_in(head):
 
 
 def definition(item, kind):
-    """The definition of a type with its doc comments, for what is public of it, and the texts of errors."""
+    """Returns the definition of a type with the doc comments of its public parts, and the texts of errors."""
     start = body_start(item)
     if start == len(item):
         return item
@@ -94,7 +94,7 @@ def definition(item, kind):
 
 
 def field_lines(lines):
-    """Fields as items: one ends with its comma."""
+    """Returns fields as items. An item ends with its comma."""
     return [re.sub(r",$", ",;", line) if line.startswith("    ") and not line.startswith("     ") else line for line in lines]
 
 
@@ -107,13 +107,13 @@ def trait_members(item, start):
 
 
 def owner_of(item):
-    """The trait and the type of an `impl`."""
+    """Returns the trait and the type of an `impl`."""
     found = re.match(r"impl(?:<.*?>)? (?:(?P<trait>[\w:]+)(?:<.*>)? for )?&?(?:'\w+ )?(?P<type>\w+)", item[0])
     return (found["trait"], found["type"]) if found else (None, None)
 
 
 def methods(item):
-    """The public methods of an `impl` of a type: name, doc comment, signature with its clauses."""
+    """Returns the public methods of an `impl` of a type: name, doc comment, signature with clauses."""
     for doc, member in items_of(item[body_start(item) + 1:-1], 4):
         if re.match(r"\s+pub (const )?fn ", member[0]):
             told = [line[4:] for line in signature(member, 4)]
@@ -121,7 +121,7 @@ def methods(item):
 
 
 def trait_block(item):
-    """What the `impl` of a trait states by clauses of its own."""
+    """Returns the clauses of the `impl` of a trait."""
     kept = []
     for _, member in items_of(item[body_start(item) + 1:-1], 4):
         told = signature(member, 4)
@@ -131,14 +131,14 @@ def trait_block(item):
 
 
 def reexports(text):
-    """The paths that the `pub use` lines of a text name, each as a list of its words."""
+    """Returns the paths of the `pub use` lines of a text, each as a list of names."""
     for path, braced, last in re.findall(r"^pub use ([\w:]+::)(?:\{([^}]*)\}|(\w+));", text, re.M):
         for name in re.findall(r"\w+", braced) or [last]:
             yield [*path.removesuffix("::").split("::"), name]
 
 
 def file_of(crate, module, words):
-    """The file that a path leads to, seen from a module of a crate; nothing where no file has that name."""
+    """Returns the file of a path, seen from a module of a crate, or None."""
     if words and words[0] == "crate":
         base, words = TOP / f"crates/{crate}/src", words[1:]
     elif words and words[0] in LISTED:
@@ -150,7 +150,7 @@ def file_of(crate, module, words):
 
 
 def module_files(crate, module, path):
-    """The files that make up a module, each with the names that are public of it."""
+    """Returns the files of a module, each with its public names."""
     own = File(path)
     wanted = {path: own.names()}
     for *words, name in reexports(own.text):
@@ -162,8 +162,8 @@ def module_files(crate, module, path):
 
 
 def modules_of(crate):
-    """The public modules of a crate: the path that users write, the doc comment, and the files with their public names. Single items
-    of another crate are on the page of that one."""
+    """Returns the public modules of a crate: the public path, the doc comment, and the files with their public names. Single items of
+    another crate are on the page of that crate."""
     root = TOP / f"crates/{crate}/src/lib.rt"
     lib, at_root, modules = root.read_text(), {}, []
     for name in re.findall(r"^pub mod (\w+);", lib, re.M):
@@ -181,5 +181,5 @@ def modules_of(crate):
 
 
 def root_of(path):
-    """The folder `src` in which a file stands."""
+    """Returns the folder `src` of a file."""
     return next(it for it in path.parents if it.name == "src")

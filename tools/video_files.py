@@ -1,6 +1,6 @@
-"""Streams of frames for the tools: read, written, cut, halved and counted, by integers and lists of Python.
+"""Video streams for the tools: read, written, cropped, halved and counted, with Python's integers and lists.
 
-Another program than the one that is tested: what is expected of `yuv` is worked out here.
+This is an independent implementation: it computes the expected output of `yuv`.
 """
 import zlib
 from collections import Counter
@@ -15,7 +15,7 @@ FIELDS = {"p": "progressive", "t": "top field first", "b": "bottom field first",
 
 
 class Video:
-    """A stream: its parameters, and its frames as lists of planes, each a list of rows."""
+    """A stream: its parameters, and its frames as lists of planes. A plane is a list of rows."""
 
     def __init__(self, parameters, frames):
         self.parameters, self.frames = parameters, frames
@@ -78,7 +78,7 @@ class Video:
         return self.resized(width, height, frames)
 
     def half(self):
-        """Half the size, rounded up: an odd last column or row counts twice."""
+        """Returns the stream at half the size, rounded up. An odd last column or row counts twice."""
         def halved(plane):
             rows = [row + row[-1:] if len(row) % 2 else row for row in plane]
             rows += rows[-1:] if len(rows) % 2 else []
@@ -90,16 +90,16 @@ class Video:
         return Video(self.parameters, self.frames[skip:][:count])
 
     def with_parameter(self, letter, value):
-        """The parameter in its place: W, H, F, I, A, C, X."""
+        """Returns the stream with the value of a header parameter replaced: W, H, F, I, A, C or X."""
         order = "WHFIACX"
         kept = [it for it in self.parameters if it[0] != letter] + [letter + value]
         return Video(sorted(kept, key=lambda it: order.index(it[0])), self.frames)
 
     def converted(self, color):
-        """Another chroma format and bit depth: values moved by whole bits, rounded to the nearest and clamped; chroma repeated, or the mean
-        of a block, where the last column and row stand for those past them; the middle value where there was none."""
+        """Returns the stream in another chroma format and bit depth. Values are shifted, rounded to the nearest and clamped. Chroma is
+        repeated or is the mean of a block, with the last column and row repeated at the edge. New chroma has the middle value."""
         made = Video(self.with_parameter("C", color).parameters, [])
-        if color != self.color:    # what says the old format once more
+        if color != self.color:    # extensions that repeat the old format
             made.parameters = [it for it in made.parameters if not it.startswith("XYSCSS=")]
         deep, was = made.depth, self.depth
 
@@ -137,7 +137,7 @@ class Video:
         return made
 
     def semi_planar(self, v_first=False, unused=0):
-        """The bytes of each frame: luma, then the samples of both chroma planes by turns, each in the top bits."""
+        """Returns the bytes of each frame: luma, then the interleaved samples of both chroma planes, each sample in the top bits."""
         bytes_each, frames = (1 if self.depth == 8 else 2), []
         for y, u, v in self.frames:
             first, second = (v, u) if v_first else (u, v)
@@ -164,7 +164,7 @@ class Video:
         return "".join(f"{name}: {value}\n" for name, value in pairs)
 
     def sums(self, planes=False, before=0):
-        """The CRC-32 of each frame, or of each plane, by zlib. So many frames stand before the first one in its file."""
+        """Returns the CRC-32 of each frame, or of each plane, by zlib. `passed` frames of the file come before the first one."""
         bytes_each, text = (1 if self.depth == 8 else 2), ""
         for number, frame in enumerate(self.frames, before + 1):
             parts = [b"".join(p.to_bytes(bytes_each, "little") for row in plane for p in row) for plane in frame]

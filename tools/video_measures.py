@@ -1,7 +1,7 @@
-"""How far two streams are apart, as `yuv compare` reports it: by integers, and by floats of Python.
+"""Measures of two streams, as `yuv compare` reports them, with Python's integers and floats.
 
-Structural similarity is that of ffmpeg's filter `ssim`: windows of 8 by 8 samples on a grid of 4, each in single precision, and
-added along a line of windows in double precision at 8 bits and in single precision above.
+Structural similarity follows ffmpeg's filter `ssim`: windows of 8 by 8 samples on a grid of 4, each in single precision. The windows
+of a line are added in double precision at 8 bits, and in single precision at other depths.
 """
 import json
 import math
@@ -16,13 +16,13 @@ def psnr_of(error, depth):
 
 
 def errors_of(one, other):
-    """The sum of squared errors and the number of samples, plane by plane."""
+    """Returns the sum of squared errors and the number of samples of each plane."""
     pairs = [[(p, q) for a, b in zip(first, second) for p, q in zip(a, b)] for first, second in zip(one, other)]
     return [(sum((p - q) ** 2 for p, q in plane), len(plane)) for plane in pairs]
 
 
 def means(errors):
-    """The mean squared error of all planes, and of each."""
+    """Returns the mean squared error of all planes, and of each plane."""
     every = [(sum(e for e, _ in errors), sum(n for _, n in errors))] + errors
     return [e / n if e else 0.0 for e, n in every]
 
@@ -32,7 +32,7 @@ def single(number):
 
 
 def window(first, second, x, y, peak):
-    """The similarity of two windows, whose sums are whole numbers."""
+    """Returns the similarity of two windows, by their integer sums."""
     a = [p for row in first[y:y + 8] for p in row[x:x + 8]]
     b = [p for row in second[y:y + 8] for p in row[x:x + 8]]
     s1, s2, s12 = sum(a), sum(b), sum(p * q for p, q in zip(a, b))
@@ -55,7 +55,7 @@ def plane_similarity(first, second, depth):
 
 
 def similarities(one, other, depth):
-    """The similarity of all planes, each weighed by its samples, and of each."""
+    """Returns the similarity of all planes, weighted by their samples, and of each plane."""
     planes = [plane_similarity(a, b, depth) for a, b in zip(one, other)]
     counts, all_planes = [len(plane) * len(plane[0]) for plane in one], 0.0
     for count, value in zip(counts, planes):
@@ -64,7 +64,7 @@ def similarities(one, other, depth):
 
 
 class Comparison:
-    """Two streams, compared as far as both go. A frame has the number that it has in the file of the first, of which so many are passed over."""
+    """Two streams, compared up to the end of the shorter one. Frames have their numbers in the first file, with `passed` skipped."""
 
     def __init__(self, one, other, ssim=False, exact=False, before=0):
         self.depth, self.ssim, self.exact, self.before = one.depth, ssim, exact, before
@@ -86,7 +86,7 @@ class Comparison:
         columns = list(zip(*self.similarities))
         return [sum(column) / len(column) for column in columns] if columns else None
 
-    # lines for people
+    # Lines for people.
 
     def frame_line(self, number):
         errors = self.errors[number]
@@ -111,10 +111,10 @@ class Comparison:
         text += "first difference: " + ("frame %d, plane %s, column %d, row %d, %d and %d" % found if found else "none") + "\n"
         return text + (f"length: the {self.longer} stream has more frames\n" if self.longer else "")
 
-    # for programs: the shortest digits that are read back the same
+    # Output for programs: the shortest digits that are read back as the same number.
 
     def measures(self, errors, similarity):
-        """The measures of frames as a JSON object has them, their sums too."""
+        """Returns the measures of frames as a JSON object, with their sums."""
         keys = ["all", "y", "u", "v"]
         mse = means(errors)
         found = {"mse": dict(zip(keys, mse)), "psnr": dict(zip(keys, [psnr_of(e, self.depth) for e in mse]))}
@@ -126,5 +126,5 @@ class Comparison:
 
 
 def read_json(text):
-    """A report as an object, in which an infinite ratio is null."""
+    """Returns a report as a JSON object. An infinite ratio is null."""
     return json.loads(text)

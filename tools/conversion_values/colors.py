@@ -1,4 +1,4 @@
-"""Luma and chroma as colors, and colors as luma and chroma, by the weights of the standards."""
+"""Conversions between Y'CbCr and RGB, by the weights of the standards."""
 
 from fractions import Fraction
 
@@ -10,8 +10,8 @@ ORDERS = {"Rgb": "rgb", "Bgr": "bgr", "Rgba": "rgba", "Bgra": "bgra"}
 
 
 def rgb_matrix(standard, kind):
-    """Returns what black is, what luma makes of each channel, what Cr makes of red, what Cb and Cr take from green, and what Cb makes
-    of blue, in parts of 16384."""
+    """Returns the level of black, the change of each channel per step of luma, of red per step of Cr, of green per step of Cb and of Cr,
+    and of blue per step of Cb, in parts of 16384."""
     red, green, blue = map(Fraction, WEIGHTS[standard])
     black, luma, chroma = RANGES[kind]
     scale = 2 ** 14 * 255
@@ -21,8 +21,8 @@ def rgb_matrix(standard, kind):
 
 
 def yuv_matrix(standard, kind):
-    """Returns what black is, what red, green and blue make of luma, what red and green take from Cb and blue adds, and what red adds
-    to Cr and green and blue take, in parts of 65536."""
+    """Returns the level of black, the changes of luma per step of red, green and blue, the changes of Cb, and the changes of Cr, in
+    parts of 65536."""
     red, green, blue = map(Fraction, WEIGHTS[standard])
     black, luma, chroma = RANGES[kind]
     by_luma, half = 2 ** 16 * luma / 255, 2 ** 16 * chroma / 255 / 2
@@ -48,7 +48,7 @@ def encoded(standard, kind, r, g, b):
 
 
 def samples(seed):
-    """Returns luma, Cb and Cr of five pixels by three, and bytes of colors."""
+    """Returns luma, Cb and Cr of a picture of five by three pixels, and bytes of colors."""
     shift = 2 * seed
     return [[(a * i + b) % 256 for i in range(15)] for a, b in ((37 + shift, 11), (53 + shift, 7), (91 + shift, 29))], \
         [((67 + shift) * i + 3) % 256 for i in range(60)]
@@ -62,7 +62,7 @@ def matrix_lines():
 
 
 def wide_lines(factors):
-    """Pictures of 67 by 9 pixels, by the sums of what is left, and the way back of their colors."""
+    """Yields the conversions of pictures of 67 by 9 pixels and of their colors, by the sums of whole buffers."""
     planes = [[entry(i, factor) % 256 for i in range(67 * 9)] for factor in (factors.source, factors.target, factors.third)]
     for standard in WEIGHTS:
         for kind in RANGES:
@@ -73,7 +73,7 @@ def wide_lines(factors):
 
 
 def exact_lines(factors):
-    """The same pictures in samples of each depth, by fractions that are rounded once."""
+    """Yields the conversions of the same pictures at each depth, by fractions that are rounded once."""
     for depth in (8, 9, 10, 12, 16):
         unit, most = 2 ** (depth - 8), 2 ** depth - 1
         planes = [[entry(i, factor) % 2 ** depth for i in range(67 * 9)] for factor in (factors.source, factors.target, factors.third)]
@@ -90,7 +90,7 @@ def exact_lines(factors):
 
 
 def stored_lines():
-    """What is left of colors that were stored as luma and chroma."""
+    """Yields the colors after they were converted to luma and chroma and back."""
     for standard in WEIGHTS:
         for kind in RANGES:
             for color in ((200, 30, 77), (0, 0, 0), (255, 255, 255), (1, 254, 128)):

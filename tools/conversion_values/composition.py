@@ -1,18 +1,18 @@
-"""Planes composed of two: blends, copies at any place, and differences."""
+"""Compositions of two planes: blends, copies to any place, and differences."""
 
 from fractions import Fraction
 
 from .pictures import Plane, rounded, text, weighted, entry
 
 TARGET, SOURCE = (13, 7, 3, 2, 1, 2), (5, 3, 1, 2, 0, 1)
-# With so many pixels that rare roundings occur.
+# A plane with enough pixels that rare roundings occur.
 LARGE_TARGET, LARGE_SOURCE = (163, 41, 3, 2, 1, 2), (150, 33, 1, 2, 0, 1)
 PAIRS = ((SOURCE, TARGET, (0, 77, 128, 256)), (LARGE_SOURCE, LARGE_TARGET, (1, 100, 255)))
 SIZES = {"u8": 256, "u16": 0}
 
 
 def placed(target, rows, x, y, mix):
-    """Returns what the target shows, with each pixel on which one of the rows lies mixed with it."""
+    """Returns the table of the target after each pixel below the rows was combined with a pixel of them."""
     shown = [list(row) for row in target.rows()]
     for j, row in enumerate(rows):
         for i, value in enumerate(row):
@@ -68,7 +68,7 @@ def apart(p, q, gain, depth):
 
 
 def difference_lines(factors):
-    """The other plane of a large one has an even factor, so that odd differences occur, and 1 among them."""
+    """Yields differences. The other plane of a large one has an even factor, so that odd differences occur, including 1."""
     for layout, step in ((TARGET, 0), (LARGE_TARGET, 1)):
         for kind, size, gain, depth in DIFFERENCES:
             other = Plane.numbered(kind, layout, factors.source + step, size).rows()
@@ -78,7 +78,7 @@ def difference_lines(factors):
 
 
 def row_lines(factors):
-    """Five pixels by three in rows that are nine entries apart, in a buffer of 30."""
+    """Yields operations on rows of five by three pixels with a stride of nine entries, in a buffer of 30."""
     for kind, size in SIZES.items():
         source = Plane.numbered(kind, SOURCE, factors.source, size).rows()
         mask = Plane.numbered("u8", SOURCE, factors.mask).rows()

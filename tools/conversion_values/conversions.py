@@ -1,4 +1,4 @@
-"""Bit depths, ranges, chroma formats and sizes by whole ratios."""
+"""Conversions of bit depths, ranges and chroma formats, and resizes by whole ratios."""
 
 from fractions import Fraction
 
@@ -10,7 +10,7 @@ SCALES = {"Quarter": Fraction(1, 4), "Half": Fraction(1, 2), "Same": Fraction(1)
 
 
 def in_depth(value, source, target):
-    """A value in another bit depth: shifted to a greater one, rounded to a smaller one."""
+    """Returns a value in another bit depth: shifted to a greater depth, rounded to a smaller one."""
     value, largest = min(value, 2 ** source - 1), 2 ** target - 1
     return min(rounded(Fraction(value) * Fraction(2) ** (target - source)), largest)
 
@@ -39,7 +39,7 @@ def repeated(rows, width, height, across, down):
 
 
 def resized(rows, width, height, across, down):
-    """Pixels that are means of the block they cover, or repeat the pixel in whose block they lie. Edges repeat."""
+    """Returns pixels that are means of the blocks they cover, or copies of the pixel whose block covers them. Edges repeat."""
     def block(place, scale, count):
         if scale >= 1:
             return [place // int(scale)]
@@ -87,7 +87,7 @@ def upscale_lines(factors):
 
 
 def sizes_of(down, across, most):
-    """Returns the sizes of a source and of a target of which the larger one has this size in each direction."""
+    """Returns the sizes of a source and of a target. The larger one has this size in each direction."""
     (wide, width), (high, height) = ((full, covering(full, int(1 / scale))) if scale < 1 else (covering(full, int(scale)), full)
                                      for full, scale in zip(most, (SCALES[across], SCALES[down])))
     return (wide, high, 2, 1, 0, 1), (width, height, 3, 2, 1, 1)
@@ -106,7 +106,7 @@ def resize_line(factors, down, across, most, depths):
 
 
 def resize_lines(factors):
-    """All scales, and those across at each remainder of a width by four."""
+    """Yields resizes by all scales, and horizontal ones for each remainder of the width by four."""
     for down in ("Half", "Same", "Double", "Quadruple"):
         for across in SCALES:
             for depths in (DEEPER, LESS_DEEP):
@@ -143,7 +143,7 @@ def frame_planes(factors, kind, size, form):
 
 
 def converted_chroma(plane, other, forms, depth, to):
-    """Returns what a chroma plane of the target shows."""
+    """Returns the table of a chroma plane of the target."""
     width, height = other.layout[:2]
     if plane is None:
         return [[2 ** (to - 1)] * width for _ in range(height)]

@@ -1,4 +1,4 @@
-"""Structural similarity as FFmpeg works it out, mean squared errors, ratios in decibels, and differences."""
+"""Structural similarity with FFmpeg's order of operations, mean squared errors, ratios in decibels, and differences."""
 
 import math
 import struct
@@ -12,7 +12,7 @@ def f32(number):
 
 
 def f32_of(whole):
-    """Returns the number of 32 bits that is nearest to a whole number, to the even one between two: rounded once."""
+    """Returns the number of 32 bits that is nearest to an integer, or the even one of two. The integer is rounded once."""
     sign, whole = (-1, -whole) if whole < 0 else (1, whole)
     spare = max(whole.bit_length() - 24, 0)
     low, high = whole & (2 ** spare - 1), whole >> spare
@@ -22,7 +22,7 @@ def f32_of(whole):
 
 
 def picture(name, columns, rows, depth, factors):
-    """The first picture, one near to it, whose low three bits are changed, and one that is far."""
+    """Returns the first picture, a picture near to it with changed low bits, and a picture far from it."""
     factor = factors.target if name == "Far" else factors.source
     values = [entry(i, factor) for i in range(columns * rows)]
     if name == "Near":
@@ -31,7 +31,7 @@ def picture(name, columns, rows, depth, factors):
 
 
 def window_similarity(p, q, depth):
-    """The similarity of two windows of 64 pixels: whole sums, each then rounded to 32 bits, and each product and quotient too."""
+    """Returns the similarity of two windows of 64 pixels. Sums are exact; each sum, product and quotient is rounded to 32 bits."""
     peak = (2 ** depth - 1) ** 2
     means, variances = (64 * peak + 5000) // 10000, (36288 * peak + 5000) // 10000
     first, second, products = sum(p), sum(q), sum(a * b for a, b in zip(p, q))
@@ -42,7 +42,7 @@ def window_similarity(p, q, depth):
 
 
 def similarity(p, q, columns, rows, depth):
-    """The mean over windows of 8 by 8 pixels at every fourth column and row: a line is added in 32 bits where pixels have two bytes."""
+    """Returns the mean over windows of 8 by 8 pixels at every fourth place. For pixels of two bytes, a line is added in 32 bits."""
     total = 0.0
     across, down = columns // 4 - 1, rows // 4 - 1
     for y in range(down):
@@ -65,7 +65,7 @@ def decibels(error, depth):
 
 CASES = [("Near", 8, 8, 8), ("Far", 8, 8, 8), ("Near", 19, 13, 8), ("Far", 19, 13, 8), ("Near", 16, 12, 10), ("Far", 16, 12, 10),
          ("Near", 9, 24, 16), ("Far", 9, 24, 16), ("Far", 9, 144, 8)]
-# Windows are summed by eight, in strips of 63 and bands of 32 lines: fewer than these, as many, and some more.
+# Windows are summed in groups of 8, strips of 63 and bands of 32 lines. The sizes are below, at and above these numbers.
 CASES += [("Far", 35, 12, 8), ("Near", 36, 8, 8), ("Far", 69, 20, 8), ("Near", 100, 136, 8), ("Far", 259, 11, 8), ("Near", 508, 13, 8),
           ("Far", 516, 140, 8), ("Far", 1027, 9, 8), ("Near", 513, 8, 10), ("Far", 264, 140, 10), ("Far", 72, 9, 13), ("Far", 72, 9, 14)]
 
@@ -80,7 +80,7 @@ def plane_lines(factors):
 
 
 def frame_lines(factors):
-    """A frame of 16 by 16 pixels in 4:2:0, of which Cr is far: all planes together are weighed by their pixels."""
+    """Yields measures of a frame of 16 by 16 pixels in 4:2:0 with a large error in Cr. The planes are weighted by their pixels."""
     values, errors = [], []
     for name, size in (("Near", 16), ("Near", 8), ("Far", 8)):
         p, q = (picture(which, size, size, 8, factors) for which in ("First", name))

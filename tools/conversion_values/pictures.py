@@ -1,10 +1,10 @@
-"""Numbered planes, as the tests of rust/v_frame_proved build them, and the sum by which a whole buffer is compared."""
+"""Numbered planes, as the tests of rust/v_frame_proved build them, and the sum by which whole buffers are compared."""
 
 LEVELS = {"u8": 256, "u16": 65536}
 
 
 class Factors:
-    """What entries are made of: a factor for sources, for targets, for a third plane and for masks. They depend on the seed."""
+    """The factors of the entries of sources, targets, third planes and masks. They depend on the seed."""
 
     def __init__(self, seed):
         self.source, self.target, self.third, self.mask = (first + 2 * 997 * seed for first in (7919, 7907, 7901, 101))
@@ -14,12 +14,12 @@ class Factors:
 
 
 def entry(i, factor):
-    """Returns entry `i` of a buffer, before it is cut to its type or depth."""
+    """Returns entry `i` of a buffer, before it is reduced to its type or depth."""
     return (i * factor + i // 13 * 31) % 65536
 
 
 def weighted(entries):
-    """Returns the sum of all entries, each times its number from 1 on."""
+    """Returns the sum of all entries, each multiplied by its number, counted from 1."""
     return sum(number * value for number, value in enumerate(entries, 1))
 
 
@@ -28,20 +28,20 @@ def numbers(values):
 
 
 class Plane:
-    """A plane in its border: a buffer, and what it shows."""
+    """A plane with its border: a buffer and its table."""
 
     def __init__(self, layout, entries):
         self.layout, self.entries = tuple(layout), list(entries)
 
     @staticmethod
     def numbered(kind, layout, factor, size=0):
-        """Returns a plane whose entries are cut to `size` values, or to those of its type."""
+        """Returns a plane whose entries are reduced to `size` values, or to the values of its type."""
         size = min(size or 65536, LEVELS[kind])
         return Plane(layout, (entry(i, factor) % size for i in range(area(layout))))
 
     @staticmethod
     def counted(layout, first):
-        """Returns a plane whose entries count from `first` on, as bytes do."""
+        """Returns a plane whose entries count up from `first`, as bytes do."""
         return Plane(layout, ((first + i) % 256 for i in range(area(layout))))
 
     def origin(self, y):
@@ -49,12 +49,12 @@ class Plane:
         return (y + top) * (width + left + right) + left
 
     def rows(self):
-        """Returns what the plane shows."""
+        """Returns the table of the plane."""
         width, height = self.layout[:2]
         return [self.entries[self.origin(y):self.origin(y) + width] for y in range(height)]
 
     def show(self, rows):
-        """Replaces what the plane shows, and returns it."""
+        """Replaces the table of the plane, and returns the plane."""
         assert [len(row) for row in rows] == [self.layout[0]] * self.layout[1]
         for y, row in enumerate(rows):
             self.entries[self.origin(y):self.origin(y) + len(row)] = row
@@ -70,12 +70,12 @@ def area(layout):
 
 
 def text(layout):
-    """Returns a layout as a word: the size, and the border to the left, to the right, above and below."""
+    """Returns a layout as one token: the size, and the border at the left, right, top and bottom."""
     return "{}x{}+{}+{}+{}+{}".format(*layout)
 
 
 def rounded(fraction):
-    """Returns the nearest whole number, upwards at a half."""
+    """Returns the nearest integer. A half is rounded up."""
     return (2 * fraction.numerator + fraction.denominator) // (2 * fraction.denominator)
 
 

@@ -2,7 +2,7 @@
 
 from .pictures import entry, weighted
 
-# Each layout, with how many columns and rows of luma a chroma pixel covers, the depth, and whether V stands first.
+# Each layout, with the luma columns and rows for each chroma pixel, the depth, and whether V comes first.
 LAYOUTS = {"Nv12": (2, 2, 8, False), "Nv21": (2, 2, 8, True), "Nv16": (2, 1, 8, False), "Nv24": (1, 1, 8, False),
            "P010": (2, 2, 10, False), "P012": (2, 2, 12, False), "P016": (2, 2, 16, False)}
 SIZES = ((7, 5), (131, 9), (64, 6))

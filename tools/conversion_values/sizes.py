@@ -1,4 +1,4 @@
-"""Pictures in any other size: means of areas, and nearest pixels."""
+"""Resizes to any size: means of areas, and nearest neighbor."""
 
 from fractions import Fraction
 
@@ -10,7 +10,7 @@ def overlap(a, b):
 
 
 def area(rows, width, height):
-    """Each pixel is the mean of what it covers, weighed by the part of each that it covers."""
+    """Returns pixels that are the means of the areas they cover, weighted by the covered parts."""
     def weights(place, count, source):
         span = (Fraction(place * source, count), Fraction((place + 1) * source, count))
         return [(i, overlap(span, (i, i + 1))) for i in range(source) if overlap(span, (i, i + 1))]
@@ -24,7 +24,7 @@ def area(rows, width, height):
 
 
 def nearest(rows, width, height):
-    """Each pixel is the one in which its middle lies."""
+    """Returns pixels that are copies of the pixel that contains their center."""
     def place(at, count, source):
         return (2 * at + 1) * source // (2 * count)
 
@@ -32,7 +32,7 @@ def nearest(rows, width, height):
 
 
 def pictures(factors, seed):
-    """Seven pixels by five of each type."""
+    """Yields resizes of a picture of seven by five pixels of each type."""
     return {"u8": [((73 + 2 * seed) * i + 19) % 256 for i in range(35)], "u16": [entry(i, factors.source) for i in range(35)]}
 
 

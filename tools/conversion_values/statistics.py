@@ -1,4 +1,4 @@
-"""Counts, extremes, sums and histograms of planes, and the best place of a block."""
+"""Counts, extremes, sums and histograms of planes, and the best match of a block."""
 
 from .pictures import LEVELS, Plane, numbers, text
 
@@ -25,7 +25,7 @@ def count_lines(factors):
 
 
 def weighed_histogram(values, size):
-    """Returns the sum of all counts, each times the square of its value plus one, and how many pixels are counted."""
+    """Returns the sum of all counts, each multiplied by its value squared plus one, and the number of counted pixels."""
     inside = [value for value in values if value < size]
     return sum((value + 1) ** 2 for value in inside), len(inside)
 
@@ -58,7 +58,7 @@ BLOCK = (6, 3, 1, 0, 0, 1)
 
 
 def match_lines(factors):
-    """The first least sum of absolute differences between a block and a region: in all places, in some, in the last."""
+    """Returns the first smallest sum of absolute differences between a block and a region: over all places, over some, over the last."""
     for kind in LEVELS:
         plane, block = Plane.numbered(kind, ODD, factors.source).rows(), Plane.numbered(kind, BLOCK, factors.target).rows()
         for x, y, columns, rows in ((0, 0, 126, 5), (20, 2, 9, 3), (125, 4, 1, 1)):

@@ -1,4 +1,4 @@
-"""Planes, rows and frames that are turned, by what is left in whole buffers."""
+"""Planes, rows and frames that are rotated or flipped, by whole buffers."""
 
 from .pictures import Plane, numbers, text
 
@@ -29,7 +29,7 @@ def plane_lines():
 
 
 def row_lines():
-    """Three pixels by two, a stride of 4, numbered from 1 on; the target is numbered from 200 on."""
+    """Yields results for three by two pixels with a stride of 4, numbered from 1. The target is numbered from 200."""
     shown = [[1, 2, 3], [5, 6, 7]]
     for turn, change in TURNS.items():
         rows = change(shown)
@@ -46,7 +46,7 @@ def row_lines():
 
 
 def frame_lines():
-    """A frame of 4:2:0, four by two: luma is numbered from 0 on, and chroma from 100 and 200 on."""
+    """Yields results for a frame of 4:2:0 of four by two pixels. Luma is numbered from 0, and chroma from 100 and 200."""
     planes = [[[0, 1, 2, 3], [4, 5, 6, 7]], [[100, 101]], [[200, 201]]]
     for turn, change in TURNS.items():
         turned = [change(rows) for rows in planes]
@@ -55,7 +55,7 @@ def frame_lines():
 
 
 def large_lines(factors):
-    """Numbered planes with more rows and columns than are turned at once, by their sums."""
+    """Yields sums for numbered planes with more rows and columns than the code handles at once."""
     for kind in ("u8", "u16"):
         for width, height in ((131, 70), (64, 129)):
             shown = Plane.numbered(kind, (width, height, 1, 0, 2, 3), factors.source).rows()

@@ -1,11 +1,11 @@
-"""What callers in Rust are told: each `requires` of a public function as a test, with a text that says what it tests.
+"""Preconditions in Rust: each `requires` of a public function becomes a test, and a line of its section `# Panics`.
 
-A call that is made very often inside the library, where what it requires is proved, is two functions: the public one
-tests and calls the other.
+A function that the library calls often is split in two, because the proofs already show the precondition there: the
+public function tests the precondition and calls a function without tests.
 
-A clause is a predicate of the table in `conditions.md`, or compares two numbers, each of which is one, half of one, or
-a sum or product of two; what is counted of two is counted in `u128`, in which it has room. The prover has read each
-clause, so its types are right. Any other clause is refused.
+A clause is a predicate of the table in `conditions.md`, or a comparison of two numbers. Each number is a plain number, a
+half, a sum of two or a product of two. Sums and products are computed in `u128`, where they cannot overflow. The prover
+has checked the types of each clause. Every other clause is rejected.
 """
 
 import re
@@ -17,23 +17,23 @@ from .paths import home_of
 from .tables import rows_of
 from .tokens import Refused
 
-# A Rust test that is true where the condition holds; when it does not hold; a message, with values in brackets.
+# A Rust test that is true if the condition holds, the text for its failure, and the panic message with values in brackets.
 Check = namedtuple("Check", "test words message")
 
-PREDICATES = {row[0].split()[0]: row for row in rows_of("conditions.md", "predicate | test | panics where | message")}
+PREDICATES = {row[0].split()[0]: row for row in rows_of("conditions.md", "predicate | test | panics if | message")}
 PROVED = "_proved"
 SIGNS = {"<": ("<", "is not below"), "≤": ("<=", "is above"), "≡": ("==", "is not"), "≢": ("!=", "is")}
 COMPARISON = re.compile(r"([^<≤≡≢]+) ([<≤≡≢]) ([^<≤≡≢]+)")
 APPLIED = re.compile(r"(\w+)((?: (?:[^\s()]+|\([^()]+\)))*)")
-# Words for any of some types.
-KINDS = {word: set(types.split()) for word, types in rows_of("conditions.md", "word | types")}
+# Names that stand for several types.
+KINDS = {name: set(types.split()) for name, types in rows_of("conditions.md", "name | types")}
 
 
 class Term(namedtuple("Term", "rust kind words shown noun", defaults=("", ""))):
-    """A parameter, a part of one, or a number: in Rust, its type, how a line and a message name it, what it counts."""
+    """A parameter, a part of one, or a number: its Rust text, its type, its name in documentation and in a message, its noun."""
 
     def __format__(self, form):
-        """Returns the Rust of it; its `words`; these as `shown` with the value; or that something is `of` it."""
+        """Returns its Rust text, its name (`words`), its name with its value (`shown`), or a phrase with `of`."""
         of = "" if self.rust == "self" else f" of {self.words}"
         return {"": self.rust, "words": self.words, "shown": self.shown, "of": of}[form]
 
@@ -44,27 +44,27 @@ class Term(namedtuple("Term", "rust kind words shown noun", defaults=("", ""))):
     bytes = property(lambda self: valued(f"{self}.byte_len()", f"`byte_len`{self:of}"))
 
     def size(self, call, noun):
-        """Returns the number that a method of it gives."""
+        """Returns the result of one of its methods, a number."""
         return valued(f"{self}.{call}()", f"the {noun}{self:of}", "usize", "" if self.rust == "self" else noun)
 
     def wide(self):
-        """Returns a number in `u128`."""
+        """Returns the number as a `u128`."""
         return self.rust if self.kind in ("literal", "u128") else f"{self} as u128"
 
 
 def valued(rust, words, kind="usize", noun=""):
-    """Returns what a message names with its value."""
+    """Returns a term that a message shows with its value."""
     return Term(rust, kind, words, f"{words.replace('`', '')} ([{rust}])", noun)
 
 
 def pixel_bytes(pixel):
-    """Returns the bytes of a pixel, which users know as a size where they choose the type of pixels."""
+    """Returns the bytes of a pixel. Users know the number as a `size_of` if they choose the pixel type."""
     rust, size = f"{pixel}::BYTES", f"size_of::<{pixel}>()"
     return Term(rust, "usize", f"`{rust}`", f"{size if pixel.rust in tables.PIXEL_TYPES else rust} ([{rust}])")
 
 
 def half(whole):
-    """Returns the half of a number, rounded up."""
+    """Returns half of a number, rounded up."""
     form = "half {}, rounded up"
     return Term(f"{whole}.div_ceil(2)", whole.kind, form.format(whole.words), form.format(whole.shown))
 
@@ -76,7 +76,7 @@ def of_two(a, sign, b):
     return Term(rust, "u128", form.format(a.words, b.words), form.format(a.shown, b.shown))
 
 
-# The forms of a number, each with what makes the number of its parts. Constants are below 2^64.
+# The forms of a number, each with a function that builds the number from its parts. Constants are below 2^64.
 FORMS = [
     (r"(\d{1,19})", lambda reader, value: Term(value, "literal", value, value)),
     (r"2 \^ ([1-5]?\d|6[0-3])", lambda reader, power: Term(f"1 << {power}", "literal", f"2^{power}", f"2^{power}")),
@@ -95,7 +95,7 @@ FORMS = [
 
 
 class Reader:
-    """Reads a clause of a function, whose parameters have types as texts; those of its types are of the type `type`."""
+    """Reads a clause of a function. `types` has the types of its parameters as texts; a type parameter has the type `type`."""
 
     def __init__(self, source, item, clause):
         lists = [it.generics for it in (item.owner, item) if it and it.generics]
@@ -107,9 +107,9 @@ class Reader:
             self.types[source[at]] = behind if end > at + 1 else f"{source.words(start, at)} {item.owner.subject}"
 
     def known(self, found):
-        """Returns what was found, and refuses the clause where that is nothing."""
+        """Returns the argument, or rejects the clause if the argument is empty."""
         if not found:
-            raise Refused(self.clause.place, f"a clause that is not known: `{self.clause.text}`")
+            raise Refused(self.clause.place, f"unknown clause: `{self.clause.text}`")
         return found
 
     def check(self):
@@ -125,13 +125,13 @@ class Reader:
         return self.compared(self.number(a), sign, self.number(b))
 
     def of_predicate(self, row, arguments):
-        """Returns the test that a row of the table makes of these arguments."""
+        """Returns the test of a predicate with these arguments, by its row of the table."""
         names, terms = row[0].split(" ")[1:], {}
         self.known(len(names) == len(arguments))
         for name, text in zip(names, arguments):
             name, _, kind = name.partition(":")
             kind, text = kind.format(**terms) or "usize", text.strip("()")
-            if kind in ("bytes", "form"):  # The type of pixels that has so many, or that form.
+            if kind in ("bytes", "form"):  # A pixel type, named by its number of bytes or by its form.
                 terms[name] = self.thing(self.known(re.fullmatch(r"([A-Z])\.(?:BYTES|form)", text))[1], "type")
             elif kind in KINDS["number"]:
                 terms[name] = self.number(text)
@@ -141,7 +141,7 @@ class Reader:
         return Check(*(text.format(**terms) for text in row[1:]))
 
     def compared(self, a, sign, b):
-        """Returns the test of two numbers: those of one type as they are, and others in `u128`."""
+        """Returns the comparison of two numbers, in their type if it is the same, and otherwise in `u128`."""
         rust, fails = SIGNS[sign]
         if sign == "<" and a.rust == "0":
             return Check(f"{b} > 0", f"{b:words} is 0", f"{b:words} is 0".replace("`", ""))
@@ -164,12 +164,12 @@ class Reader:
         return self.known(None)
 
     def one(self, text):
-        """Returns a number that is no sum and no product."""
+        """Returns a number that is neither a sum nor a product."""
         number = self.number(text)
         return self.known(number.kind != "u128" and number)
 
     def thing(self, text, *kinds):
-        """Returns a parameter, or what it points to, of one of these types. What is said of its table is said of it."""
+        """Returns a parameter of one of these types, or its target. A term about its table is a term about the parameter."""
         path = self.known(re.fullmatch(r"(?:tables?_of |exchanges )?(\w+)(?:\.(now|old))?(\.geometry)?", text))
         reference, unique, whole = re.fullmatch(r" ?(& ?(?:'\w+ )?(mut )?)?(.*)", self.types.get(path[1], "")).groups()
         kind = whole[0] + whole[-1] if re.fullmatch(r"\[[^;]*\]|\(usize, .*", whole) else re.match(r"\w*", whole)[0]
@@ -180,14 +180,14 @@ class Reader:
 
 
 def checks_of(source, item):
-    """Returns the tests of a function's clauses, in their order. A closure of Rust can always be called."""
+    """Returns the tests of the clauses of a function, in order. A Rust closure can always be called, so it needs no test."""
     clauses = source.clauses_of(item, "requires")
     clauses = [clause for clause in clauses if not re.fullmatch(r"[A-Z]\w*\.IsAlwaysCallable \w+", clause.text)]
     return [Reader(source, item, clause).check() for clause in clauses]
 
 
 def message_of(check):
-    """Returns what `assert!` takes after its test: a message in which names stand, and then all other values."""
+    """Returns the arguments of `assert!` after its test: a message with the names in it, and then all other values."""
     parts, behind = re.split(r"\[([^][]*?)(:\?)?\]", check.message), []
     message = parts[0]
     for value, form, text in zip(parts[1::3], parts[2::3], parts[3::3]):
@@ -198,36 +198,36 @@ def message_of(check):
 
 
 def add_assertions(source, reach):
-    """Adds the tests to each function that users can call; without a body there is no place."""
+    """Adds the tests to each function that users can call. A function without a body has no place for them."""
     for item in reversed(functions_of(source)):
         is_law = "laws" in source.module and item.name in tables.WITHOUT_TESTS["laws"]
         if not source.clauses_of(item, "requires") or is_law:
             continue
         if not reach.is_public(source, item):
             if home_of(source.crate) == tables.LIBRARY and item.owner and (item.is_public() or item.owner.trait):
-                source.refuse(item.keyword, "a clause of a function that users may reach by another way than its name")
+                source.refuse(item.keyword, "a clause of a function that users can reach other than by its name")
             continue
         if item.body is None and item.name not in tables.WITHOUT_TESTS.get(item.owner.name, ()):
-            source.refuse(item.keyword, "a clause of a function without a body that is not in the table")
+            source.refuse(item.keyword, "a clause of a function without a body, which is not in the table")
         checks = checks_of(source, item) if item.body else []
         if checks:
             add_tests(source, item, checks)
 
 
 def add_facts(source):
-    """Adds tests that hold by proof to private functions. From them the compiler knows how long slices are beside each
-    other, and leaves out its own tests at each place: without them a mirrored row takes three times as long."""
+    """Adds tests to private functions, although the proofs show that they hold. They tell the compiler that slices have equal
+    lengths, so it removes its own tests inside loops. Without them, flipping a row takes three times as long."""
     for item in reversed(functions_of(source)):
         if (source.crate, item.name) in tables.FACTS:
             checks = checks_of(source, item)
             if not checks or item.is_public():
-                source.refuse(item.keyword, "a function of the table of facts that is public, or requires nothing")
+                source.refuse(item.keyword, "a function of the table of facts must be private and have a precondition")
             text = "\n    ".join(f"assert!({check.test});" for check in checks)
             source.insert(item.body[0] + 1, "known-fact", text, "\n    ")
 
 
 def add_tests(source, item, checks):
-    """Writes the tests at the beginning of the body, when the function stops in its text, and the one without tests."""
+    """Writes the tests at the beginning of the body, the section `# Panics`, and the function without tests."""
     lead = source.line_start(item.head)
     inner, start, tests = lead + "    ", item.body[0] + 1, []
     if (source.crate, item.name) in tables.HOT:
@@ -239,24 +239,24 @@ def add_tests(source, item, checks):
         tests.append(line if fits else f"assert!({inner}    {check.test},{inner}    {message}{inner});")
     source.insert(start, "assertion", inner.join(tests), inner)
     source.insert(item.head, "track-caller", "#[track_caller]", lead)
-    words = [f"where {check.words}" for check in checks]
+    words = [f"if {check.words}" for check in checks]
     lines = ["/// Panics", "///", *(f"/// - {word}," for word in words[:-1]), f"/// - {words[-1]}."]
     text = lead.join(["///", "/// # Panics", "///", *(lines if words[1:] else [f"/// Panics {words[0]}."])])
     source.insert(item.docs[-1] + 1 if item.docs else item.start, "panics-text", text, lead)
 
 
 def hot_text(source, item, lead):
-    """Returns what parts the function: the call, and the head of a second function, whose the rest of the body is."""
+    """Returns the text that splits the function: a call, and the head of a second function with the rest of the body."""
     names = [source[at] for _, at, _ in parameters_of(source, item)]
     head = source.words(item.keyword, item.body[0]).replace(f"fn {item.name}", f"fn {item.name}{PROVED}", 1)
-    text = "/// The same without a test, for calls that are known to meet it."
+    text = f"/// `{item.name}` without tests, for calls that are proved to meet its preconditions."
     arguments = ", ".join(name for name in names if name != "self")
     call = f"{'self.' * ('self' in names)}{item.name}{PROVED}({arguments})"
     return f"{call}{lead}}}\n{lead}{text}{lead}#[inline]{lead}pub(crate) {head} {{"
 
 
 def rename_hot_calls(source):
-    """Lets the library's own calls go to the functions without tests."""
+    """Makes the calls inside the library use the functions without tests."""
     names = {name for _, name in tables.HOT}
     if source.crate not in {crate for crate, _ in tables.HOT}:
         names -= {item.name for item in functions_of(source)}

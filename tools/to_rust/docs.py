@@ -1,6 +1,6 @@
-"""Documentation: paths lead to where items are in Rust, and sentences for those who write proofs are left out.
+"""Documentation: paths are changed to the Rust paths, and sentences about proofs are removed.
 
-A paragraph in which a sentence was left out is filled anew. All others keep their lines.
+The lines of a paragraph are filled again if a sentence was removed from it. All other paragraphs keep their lines.
 """
 
 import re
@@ -13,13 +13,13 @@ PROOF_WORDS = re.compile("|".join(tables.PROOF_WORDS))
 SENTENCE_END = re.compile(r"(?<=[.:!?])\s+(?=[A-Z`\[(])")
 LINK = re.compile(r"\]\(([A-Za-z_][A-Za-z0-9_:]*)(\(\))?\)")
 BARE = re.compile(r"\[`([a-z_0-9]+(?:::\w+)+)`\](?!\()")
-# What texts say of Rattle's way where Rust has `size_of`.
+# Names of Rattle for the number of bytes of a pixel, which Rust writes as `size_of`.
 BYTES = re.compile(r"\[`BYTES`\]\(Pixel::BYTES\)|\[`Pixel::BYTES`\]|`([TS])::BYTES`")
 CRATE = re.compile(r"`(v_frame_[a-z0-9_]+)`")
 
 
 def without_proofs(text):
-    """Returns a text without its sentences for those who write proofs, and these. Behind `;` a part may go alone."""
+    """Returns a text without its sentences about proofs, and these sentences. A part after `;` counts as a sentence."""
     kept, left_out = [], []
     for sentence in SENTENCE_END.split(text):
         front, _, back = sentence.partition("; ")
@@ -34,12 +34,12 @@ def without_proofs(text):
 
 
 def shortened(lines):
-    """Returns the lines of a text without sentences for those who write proofs, and these sentences."""
+    """Returns the lines of a text without sentences about proofs, and these sentences."""
     new, left_out, fenced, at = [], [], False, 0
     while at < len(lines):
         end = at + 1
         fenced = fenced != lines[at].strip().startswith("```")
-        stays = fenced or re.match(r"\s*($|#|\||```)", lines[at])  # It is blank, or no prose.
+        stays = fenced or re.match(r"\s*($|#|\||```)", lines[at])  # A blank line, or a line that is not prose.
         while not stays and end < len(lines) and not re.match(r"\s*($|#|\||```)|- ", lines[end]):
             end += 1
         item = "- " if lines[at].startswith("- ") else ""
@@ -54,13 +54,13 @@ def shortened(lines):
 
 
 class Links:
-    """Where the links of one source lead."""
+    """The targets of the links of one source."""
 
     def __init__(self, source, reach):
         self.source, self.reach, self.imports = source, reach, source.left_imports
 
     def path(self, path):
-        """Returns a path as Rust has it: the shortest public one of an item of the same crate."""
+        """Returns the Rust path for a path. For an item of the same crate, this is its shortest public path."""
         root, *parts = path.split("::")
         crate = self.source.crate if root == "crate" else root
         if (crate, ()) not in self.reach.sources:
@@ -72,7 +72,7 @@ class Links:
         return "::".join([paths.module_of(self.source, crate) or crate, *parts])
 
     def line(self, line):
-        """Returns a line with its paths as Rust has them, and with the words of the table."""
+        """Returns a line with the Rust paths and the Rust names."""
         line = LINK.sub(lambda found: f"]({self.path(found[1])}{found[2] or ''})", line)
         for name, path in self.imports.items():
             named = re.compile(rf"\[`({name})((?:::\w+)*)`\](?!\()")
@@ -82,14 +82,14 @@ class Links:
         return BYTES.sub(lambda found: f"`size_of::<{found[1] or 'T'}>()`", line)
 
     def bare(self, found):
-        """Returns a link that is its own text, with both as Rust has them."""
+        """Returns a link whose text is its target, with the Rust path for both."""
         path = self.path(found[1])
         shown = path.removeprefix("crate::")
         return f"[`{shown}`]({path})" if path != shown else f"[`{path}`]"
 
 
 def rewrite(source, links):
-    """Rewrites each text of a source, and adds what the table says more of a module."""
+    """Rewrites each doc comment of a source, and adds the paragraph of the table to the documentation of a module."""
     at = 0
     while at < len(source):
         end = at
@@ -103,7 +103,7 @@ def rewrite(source, links):
 
 
 def rewrite_text(source, start, end, links):
-    """Rewrites the text of one item, and returns where it ends. Lines that stay the same stay the source's tokens."""
+    """Rewrites the doc comment of one item, and returns its end. Unchanged lines remain tokens of the source."""
     mark, old = source[start][:3], [source[k][3:].removeprefix(" ") for k in range(start, end)]
     new, left_out = shortened(old)
     for sentence in left_out:
@@ -122,7 +122,7 @@ def rewrite_text(source, start, end, links):
 
 
 def rewrite_comments(source):
-    """Leaves out comments that speak to those who write proofs."""
+    """Removes comments about proofs."""
     for at, token in enumerate(source.tokens):
         for comment in re.findall(r"(?:[ \t]*//[^\n]*\n)+", token.lead):
             text = " ".join(line.strip(" /") for line in comment.splitlines())

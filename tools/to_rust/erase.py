@@ -1,6 +1,6 @@
-"""What is left out beyond forms of a few tokens: models, laws with their calls, and names and values that nobody reads.
+"""Removes models, laws with their calls, and unused names and values. `forms` removes short forms.
 
-A law is a function that does nothing, whose contract says what holds.
+A law is a function with an empty body, whose contract states a fact.
 """
 
 from . import forms
@@ -8,17 +8,17 @@ from .strict import KNOWN
 from .items import KEYWORDS, functions_of, items_of, parameters_of
 from .paths import leaves_of
 
-# Marks that only read, as calls of the kind `reading` do: both may stand in a statement whose value nobody reads, and in
-# what is proved.
+# Marks without an effect. They and calls of the kind `reading` may occur in a statement whose value is unused, and in a
+# condition of `prove!`.
 READING_MARKS = set(". , ( ) & + - * && || == != < <= > >=".split())
 
 
 def erase_proofs(source):
-    """Erases what is there for proofs alone. What functions require and ensure is kept for the tests of it."""
+    """Removes the parts that only proofs need. The clauses of functions are recorded, because tests are made from them."""
     for at in source.places("ghost"):
         end = source.following(at, ";") if source[at + 1] == "use" else at
         if KEYWORDS & {source[k] for k in range(at + 2, end)}:
-            source.refuse(at, "an import of words for clauses that does not end")
+            source.refuse(at, "a `ghost use` without an end")
     forms.rewrite(source, forms.GHOSTS)
     for item in reversed(items_of(source)):
         if item.kind == "impl" and item.trait == "Model":
@@ -31,7 +31,7 @@ def erase_proofs(source):
 
 
 def only_reads(source, start, end):
-    """Returns whether the tokens from `start` up to `end` are names, numbers, and calls that only read."""
+    """Returns whether the tokens from `start` to `end` are names, numbers, and calls without an effect."""
     plain = [k for k in range(start, end) if source[k] not in READING_MARKS and source.kind(k) != "number"]
     words = all(source.is_word(k) and source[k] not in KNOWN["keywords"] - {"self"} for k in plain)
     return words and {source[k] for k in plain if source[k + 1] == "("} <= KNOWN["reading"] \
@@ -39,29 +39,29 @@ def only_reads(source, start, end):
 
 
 def erase_unread(source):
-    """Erases `let _name = ..;`, whose value nobody reads, and refuses it where it may do something; so what is proved,
-    which Rust tests in some builds alone."""
+    """Removes `let _name = ..;`, whose value is unused, or rejects it if it may have an effect. A condition of `prove!`, which
+    Rust tests only in some builds, must not have an effect either."""
     for at in source.places("let", "prove"):
         if source.matches(at, "prove !") and not only_reads(source, at + 2, source.closing(at + 2)):
-            source.refuse(at, "a condition that may do something")
+            source.refuse(at, "a condition that may have an effect")
         if source[at + 1].startswith("_") and source[at + 1] not in {"_", *KNOWN["unread"]} and source[at + 2] == "=":
             end = source.following(at, ";")
             if not only_reads(source, at + 3, end):
-                source.refuse(at, "a statement whose value nobody reads, and which may do something")
+                source.refuse(at, "an unused value whose computation may have an effect")
             source.erase(at, end + 1, "unread-value")
 
 
 def erase_laws(sources):
-    """Erases laws and their calls, until none is left: a law may be one that only calls others.
+    """Removes laws and their calls until no law is left, because a function that only calls laws is a law, too.
 
-    Returns the sources in which something is left. Where nothing is, the module is left out, too."""
+    Returns the sources with remaining items. The module of an empty source is removed, too."""
     while laws := {item.name for source in sources for item in laws_of(source)}:
         for source in sources:
             for item in reversed(laws_of(source)):
                 source.erase(item.start, item.end, "law")
             for item in functions_of(source):
                 if item.name in laws:
-                    source.refuse(item.keyword, "a function that has the name of a law")
+                    source.refuse(item.keyword, "a function with the name of a law")
             erase_calls(source, laws)
             for item in reversed(items_of(source)):
                 if item.kind == "use":
@@ -75,20 +75,20 @@ def erase_laws(sources):
         named = [(parent, item) for parent in parents for item in items_of(parent)
                  if (item.kind, item.name) == ("mod", source.module[-1])]
         if not named:
-            source.refuse(0, "a file that no module names")
+            source.refuse(0, "a file that no `mod` declares")
         named[0][0].erase(named[0][1].start, named[0][1].end, "law-module")
     return kept
 
 
 def laws_of(source):
-    """Returns the functions of a source that have a contract and do nothing."""
+    """Returns the functions of a source that have a contract and an empty body."""
     empty = [item for item in functions_of(source) if item.body and item.body[0] + 1 == item.body[1]
              and not (item.owner and item.owner.trait)]
     return [item for item in empty if not item.result and source.clauses_of(item, "ensures")]
 
 
 def erase_calls(source, laws):
-    """Erases statements that call a law, `path::name::<T>(arguments);`, and the `if let` that then is empty."""
+    """Removes statements that call a law, `path::name::<T>(arguments);`, and each `if let` that is empty afterwards."""
     for start in source.places(*laws):
         end = start + 1
         while source[start - 1] == "::":
@@ -99,13 +99,13 @@ def erase_calls(source, laws):
             opening, end = end, source.closing(end) + 1
             if source[end] == ";":
                 if not only_reads(source, opening, end):
-                    source.refuse(opening, "a call of a law that may do something")
+                    source.refuse(opening, "a call of a law with arguments that may have an effect")
                 source.erase(start, end + 1, "law-call")
     forms.rewrite(source, [("law-call", "if let Some ( _ ) = _ { }")])
 
 
 def erase_names(source, item, names, rule):
-    """Takes names out of an import, and the import away where it has no other."""
+    """Removes names from an import, or the whole import if it has no other name."""
     at = item.keyword
     while source[at] != ";":
         if source[at] not in names or source[at + 1] not in (",", "}", ";"):
@@ -126,7 +126,7 @@ def erase_names(source, item, names, rule):
 
 
 def erase_imports(source, traits):
-    """Erases the names of private imports that no code names. Traits stay: their methods may be called."""
+    """Removes unused names from private imports. Traits are kept, because their methods may be called."""
     imports = [item for item in items_of(source) if item.kind == "use" and not item.visible]
     inside = {at for item in imports for at in range(item.keyword, item.end)}
     used = {token.text for at, token in enumerate(source.tokens) if at not in inside} | traits | {"_"}
@@ -140,7 +140,7 @@ def erase_imports(source, traits):
 
 
 def rename_unread(source):
-    """Puts a `_` in front of parameters, and of variables of loops, that a body and its texts do not name."""
+    """Puts a `_` in front of parameters and loop variables that the body and its format strings do not use."""
     variables = [(at, item.body) for item in functions_of(source) if item.body
                  for _, at, _ in parameters_of(source, item) if source[at + 1] == ":"]
     for at in source.places("for"):

@@ -1,15 +1,15 @@
-"""Errors: what `thiserror` derives is written out, so that the Rust crates depend on nothing."""
+"""Writes out the implementations that `thiserror` derives, so that the Rust crates have no dependencies."""
 
 import re
 
 from .items import Item, items_of, skip_attributes
 
-# What `thiserror` reads, at variants and fields of what it derives an error for.
+# The attributes of variants and fields that `thiserror` reads.
 MARKED = ("error", "source", "from")
 
 
 class Variant:
-    """A variant of an error: its name, the names of its fields, its message, and the field that is its cause."""
+    """A variant of an error: its name, the names of its fields, its message, and the field with its cause."""
 
     def __init__(self, source, at, kind):
         noted = Item(at)
@@ -18,7 +18,7 @@ class Variant:
         self.cause = self.made_from = None
         messages = [at for at, end in noted.attributes if source.matches(at, "# [ error (") and end - at == 7]
         if not len(messages) == len(noted.attributes) == 1:
-            source.refuse(at, "a variant of an error that has not a message alone")
+            source.refuse(at, "a variant of an error must have exactly one attribute, its message")
         self.message = source[messages[0] + 4]
         for start, end in source.elements(at + 1, types=True) if self.form in ("(", "{") else ():
             noted = Item(start)
@@ -28,16 +28,16 @@ class Variant:
             for place, behind in noted.attributes:
                 word = source.words(place + 2, behind - 1)
                 if word not in ("source", "from") or word == "from" and self.form != "(" or self.cause:
-                    source.refuse(place, f"an attribute of a field that is not known: {word}")
+                    source.refuse(place, f"unknown attribute of a field: {word}")
                 self.cause, self.made_from = self.fields[-1], source.words(start, end) if word == "from" else None
         shown = self.fields if self.form == "{" else [str(number) for number in range(len(self.fields))]
         text = re.sub(r"\{(\w+)\}", lambda found: "" if found[1] in shown else found[0], self.message)
         if self.message != "transparent" and not re.fullmatch(r'"[^{}]*"', text) or \
                 self.message == "transparent" and self.fields != ["value"]:
-            source.refuse(messages[0], f"a message of an error that is not known: {self.message}")
+            source.refuse(messages[0], f"unsupported message of an error: {self.message}")
 
     def pattern(self, used):
-        """Returns the pattern that names the fields that are used."""
+        """Returns a pattern that binds the used fields."""
         if self.form == "{":
             kept = [field for field in self.fields if field in used]
             return f"{self.name} {{ {', '.join(kept + ['..'] * (len(kept) < len(self.fields)))} }}"
@@ -46,7 +46,7 @@ class Variant:
         return self.name
 
     def arms(self):
-        """Returns the arm that shows the error, and the one that gives the cause, or nothing."""
+        """Returns the arm of `Display`, and the arm of `source` or an empty value."""
         if self.message == "transparent":
             front = f"{self.pattern(self.fields)} => core::"
             return f"{front}fmt::Display::fmt(value, f),", f"{front}error::Error::source(value),"
@@ -61,14 +61,14 @@ class Variant:
 
 
 def write_errors(source):
-    """Writes `Display`, `Error` and `From` for each type that derives them."""
+    """Writes `Display`, `Error` and `From` for each type that derives an error."""
     for item in reversed(items_of(source)):
         derives = [range(start, end) for start, end in item.attributes if source[start + 2] == "derive"]
         derived = [at for places in derives for at in places if source[at] == "Error"]
         if not derived:
             continue
         if item.kind != "enum" or not item.body:
-            source.refuse(item.keyword, "an error that is no enum")
+            source.refuse(item.keyword, "an error must be an enum")
         variants = [Variant(source, at, item.name) for at, _ in source.elements(item.body[0], types=True)]
         source.insert(item.end, "error-derive", impls_text(item.name, variants), "\n\n")
         for at in reversed([at for at in range(*item.body) if source[at + 1] in MARKED and source[at] == "["]):
@@ -76,7 +76,7 @@ def write_errors(source):
         source.erase_listed(derived[0], derived[0] + 1, "error-derive")
     for at in source.places(*MARKED):
         if source[at - 1] == "[" and source[at - 2] == "#":
-            source.refuse(at, f"an attribute that is not known: {source[at]}")
+            source.refuse(at, f"unknown attribute: {source[at]}")
 
 
 def impls_text(name, variants):

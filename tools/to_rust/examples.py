@@ -1,7 +1,7 @@
-"""Examples of public items. They are written by hand, as Rust, and stand in `rust/v_frame_proved/doc_examples`.
+"""Hand-written Rust examples of public items, from `rust/v_frame_proved/doc_examples`.
 
-A line `## PATH` names an item of the library by its public path, and the block of code after it is put at the end of
-its text. `missing` tells which public items have none, and stand in none of their module: one can be for many.
+A line `## PATH` names an item of the library by its public path. The block of code after it goes to the end of the
+item's doc comment. `missing` lists the public items that no example of their module shows.
 """
 
 import re
@@ -18,7 +18,7 @@ HIDDEN = {"Pixel", "PixelCalls", "laws"}
 
 
 class Examples:
-    """The examples by the paths of their items, and the public items that were met without one."""
+    """The examples by the paths of their items, and the public items without an example."""
 
     def __init__(self, root):
         self.root, self.code, self.place_of, self.modules, self.used, self.missing = root, {}, {}, set(), set(), []
@@ -33,7 +33,7 @@ class Examples:
                 raise Refused(str(path), "a heading without a block of code")
 
     def add(self, source, reach):
-        """Puts the examples of a source's items at the ends of their texts, and notes items that stand in none."""
+        """Adds the examples of a source to the doc comments of its items, and records items that no example shows."""
         self.modules = {name.partition("::")[2] for name in reach.modules}
         for item in reversed(items_of(source)):
             path = path_of(source, reach, item)
@@ -45,20 +45,20 @@ class Examples:
         self.put(source, module, "//!", [at for at in range(len(source)) if source[at].startswith("//!")])
 
     def shows(self, path):
-        """Returns whether an item has an example, or its name stands in one of its module, beside its type's name."""
+        """Returns whether an item has an example, or an example of its module has its name and the name of its type."""
         module, (around, name) = self.module_of(path), path.split("::")[-2:] if "::" in path else ("", path)
         names = [name, around] if module != path.rpartition("::")[0] else [name]
         near = [f"{place}\n{code}" for place, code in self.code.items() if self.module_of(place) == module]
         return path in self.code or any(all(re.search(rf"\b{name}\b", text) for name in names) for text in near)
 
     def module_of(self, path):
-        """Returns the module that an item is in, and of a module itself. A type has a name with a capital in front."""
+        """Returns the module of an item, or a module itself. The name of a type begins with a capital letter."""
         parts = path.split("::")
         length = len(parts) - (path not in self.modules)
         return "::".join(parts[:next((k for k, part in enumerate(parts) if part[0].isupper()), length)])
 
     def put(self, source, path, mark, docs):
-        """Puts an example behind a text."""
+        """Adds an example to a doc comment."""
         if path in self.code and docs:
             self.used.add(path)
             lines = ["", "# Examples", "", "```", *self.code[path].splitlines(), "```"]
@@ -67,9 +67,9 @@ class Examples:
             source.insert(docs[-1] + 1, "doc-example", text, lead)
 
     def finish(self):
-        """Refuses examples of what is no public item, and notes what is written by hand and stands in no example."""
+        """Rejects examples of unknown items, and records hand-written items that no example shows."""
         for path in sorted(set(self.code) - self.used):
-            raise Refused(self.place_of[path], f"an example of {path}, which is no public item with a text")
+            raise Refused(self.place_of[path], f"an example of {path}, which is not a public item with a doc comment")
         files = {path: path.read_text(encoding="utf-8") for path in sorted((self.root / BY_HAND).rglob("*.rs"))}
         shown = "\n".join([*self.code.values(), *(code for text in files.values() for code in FENCE.findall(text))])
         for path, text in files.items():
@@ -78,7 +78,7 @@ class Examples:
 
 
 def path_of(source, reach, item):
-    """Returns the public path of a function or a type without the crate in front, or nothing."""
+    """Returns the public path of a function or a type, without the crate, or an empty value."""
     place = None
     if item.kind in ("fn", "struct", "enum", "trait") and item.owner is None and item.is_public():
         place = reach.names.get((source.crate, (*source.module, item.name)))

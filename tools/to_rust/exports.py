@@ -1,8 +1,8 @@
-"""Exports: the functions that C calls, with pointers and lengths where the sources have references and slices.
+"""Exports: the functions that C calls. References become pointers, and slices become pointers and lengths.
 
-An export becomes an unsafe function, whose body begins by taking each pointer as what the source has; the rest of it is
-the source's. What takes a pointer stands in one file by hand, `foreign`. An export that requires something, or has a
-parameter of another form, is refused.
+An export becomes an unsafe function. Its body begins by converting each pointer back to a reference or a slice; the rest
+is the body of the source. The conversions are in the hand-written file `foreign`. An export with a precondition or with
+another form of parameter is rejected.
 """
 
 import re
@@ -13,14 +13,14 @@ from .items import functions_of, parameters_of
 MARK = "# [ unsafe ( no_mangle ) ]"
 HEAD = 'extern "C" fn'
 RESULT = "-> u32"
-BEFORE = "///\n/// # Safety\n///\n/// Each pointer is as the header says.\n#[allow(unsafe_code)]"
+BEFORE = "///\n/// # Safety\n///\n/// Each pointer must meet the conditions of the header.\n#[allow(unsafe_code)]"
 SCALAR = r"u8|u16|u32|u64|usize|isize|f64"
-# The type of a parameter: one that goes as it is, or a reference to one or to many, which may be written.
+# The type of a parameter: a scalar, or a reference to a value or a slice, which may be `mut`.
 TYPE = re.compile(rf"{SCALAR}|&(?P<writes>mut )?(?:(?P<one>[A-Z]\w*|{SCALAR})|\[(?P<many>{SCALAR})\])")
 
 
 def is_form(source, at):
-    """Returns whether a token is of a form that crates for C alone have: an export, or a struct as C lays it out."""
+    """Returns whether a token belongs to a form of the crates for C: an export, or a struct with the layout of C."""
     forms = source.matches(at, HEAD) or source.matches(at - 2, MARK) or source.matches(at - 2, "# [ repr ( C ) ]")
     return source.crate in tables.FOR_C and forms
 
@@ -30,22 +30,22 @@ def rewrite(source):
     for item in reversed(functions_of(source)):
         marked = any(source.matches(start, MARK) for start, _ in item.attributes)
         if marked != (source[item.keyword - 2] == "extern"):
-            source.refuse(item.keyword, "an export of a form that is not known")
+            source.refuse(item.keyword, "unsupported form of an export")
         if marked:
             rewrite_export(source, item)
 
 
 def rewrite_export(source, item):
-    """Rewrites one export from its end on, and refuses what C could not call as the contract has it."""
+    """Rewrites one export, from its end to its beginning, and rejects a function that C cannot call within its contract."""
     if source.clauses_of(item, "requires"):
-        source.refuse(item.keyword, "an export that requires something, which C does not prove")
+        source.refuse(item.keyword, "an export with a precondition, which C cannot prove")
     if not item.is_public() or item.owner or item.generics or not item.result or source.words(*item.result) != RESULT:
-        source.refuse(item.keyword, "an export of a form that is not known")
+        source.refuse(item.keyword, "unsupported form of an export")
     taken, pointers = [], []
     for start, at, end in parameters_of(source, item):
         found, name = TYPE.fullmatch(source.words(at + 2, end)), source[at]
         if not found or start != at:
-            source.refuse(start, "a parameter of an export of a form that is not known")
+            source.refuse(start, "unsupported form of a parameter of an export")
         if not found["one"] and not found["many"]:
             continue
         pointer = f"*{'mut' if found['writes'] else 'const'} {found['one'] or found['many']}"
@@ -55,7 +55,7 @@ def rewrite_export(source, item):
             pointer += ",\n    " if "\n" in source.tokens[start].lead else ", "
             pointer += f"{name}_length: usize"
             if f"{name}_length" in [source[k] for k in range(item.keyword, item.end)]:
-                source.refuse(start, "a slice whose length has a name that is there")
+                source.refuse(start, "the name for the length of a slice is already in use")
         call += "_mut" if found["writes"] else ""
         taken.append(f"let {name} = unsafe {{ crate::foreign::{call}({arguments}) }};")
         pointers.append((at + 2, end, pointer))

@@ -1,16 +1,17 @@
-"""Forms of a few tokens: tables of what stands in a source, and what stands for it in Rust.
+"""Short forms: tables of patterns in the sources, and of their replacements in Rust.
 
-A row has a rule, a pattern, and texts. In a pattern `_` is any word, `@` an allocator, and `..` all up to what is next
-in the pattern, outside of brackets. The texts take the place of the parts between `«` and `»`, or of all where none
-is marked; without texts the parts are left out, and where a part is empty a word is put. None refuses the pattern.
+A row has a rule, a pattern, and replacements. In a pattern, `_` stands for any word, `@` for an allocator, and `..` for
+all tokens before the next token of the pattern, outside of brackets. The replacements are for the parts between `«` and
+`»`, or for the whole pattern if no part is marked. Without replacements, the parts are removed. If a part is empty, its
+replacement is put in. The replacement None rejects the pattern.
 """
 
 from .source import CLOSING
 
-# An allocator has no content in Rattle. So it is left out wherever it is passed.
+# An allocator has no content in Rattle, so it is removed everywhere.
 ALLOCATORS = ("alloc", "_alloc", "rt . alloc ( )", "self . alloc", "system . rt . alloc ( )")
 
-# Ghosts: imports of words for clauses, and members and fields, which take no memory and have no value.
+# Ghosts: imports for clauses, and members and fields without memory and value.
 GHOSTS = [
     ("ghost-use", "ghost use .. ;"),
     *[("ghost-member", f"{front} ghost _ {kind} {value} {proof} {end}") for front in ("pub ( _ )", "pub", "")
@@ -18,7 +19,7 @@ GHOSTS = [
       for proof in ("", "by { .. }") for end in ";,"],
 ]
 
-# What else is there for proofs alone. In Rattle a type can be dropped where it is `Drop`; in Rust every type can.
+# Other forms that only proofs need. In Rattle, a type can be dropped if it is `Drop`; in Rust, every type can be dropped.
 PROOFS = [
     *[("clause-requires", f"requires {form} {{ .. }}") for form in ("", "*", "_", "* _")],
     *[("clause-ensures", f"ensures {form} {{ .. }}") for form in ("", "*", "_", "* _")],
@@ -33,7 +34,8 @@ PROOFS = [
     ("drop-derive", "# [ derive ( ) ]"),
 ]
 
-# Memory: `Vec` and `String` are Rust's own. What grows or makes one reserves first, by traits of `support::memory`.
+# Memory: `Vec` and `String` are Rust's. A call that creates or extends one reserves memory first, by traits of
+# `support::memory`.
 MEMORY = [
     ("memory-macro", "« vec ! [ » « in @ ; » .. « ; » .. « ] »", "repeated(", "", ",", ")"),
     ("memory-macro", "« format ! ( » « in @ ; » .. « ) »", "try_format(format_args!(", "", "))"),
@@ -62,7 +64,7 @@ MEMORY = [
     *[("memory-call", f". « {name} » (", f"try_{name}") for name in "push push_str extend_from_slice resize".split()],
 ]
 
-# What Rattle and Rust write differently. What is proved before the program is built, Rust tests while it is debugged.
+# Forms that Rattle and Rust write differently. A condition of `prove!` becomes a debug assertion.
 OTHERS = [
     ("formatter", "Formatter < « W » >", "'_"),
     ("formatter", "fn fmt (", None),
@@ -79,7 +81,7 @@ OTHERS = [
     ("handle", "« » fn main ( rt : HostRuntime )", "pub"),
 ]
 
-# What a program reaches by the handle of the system, where it passes that on to nobody.
+# Uses of the handle of the system in a program that does not pass it on.
 HANDLES = [
     ("handle", "rt . stdout ( )", "std::io::stdout()"),
     ("handle", "fn main ( « rt : HostRuntime » )"),
@@ -96,7 +98,7 @@ def rewrite(source, table):
         for at in source.places(first) if first in present else ():
             parts = parts_at(source, at, pattern.split())
             if parts and texts == [None]:
-                source.refuse(at, f"a form that is not known: {pattern}")
+                source.refuse(at, f"unknown form: {pattern}")
             for (start, end), text in zip(reversed(parts), reversed(texts or [""] * len(parts))):
                 if start < end:
                     source.replace(start, end, rule, text)
@@ -106,7 +108,7 @@ def rewrite(source, table):
 
 
 def parts_at(source, at, pattern):
-    """Returns where the marked parts of a pattern begin and end, if it stands at `at`, and else nothing."""
+    """Returns the beginning and the end of each marked part of a pattern, if it matches at `at`, or an empty list."""
     parts, start, begin = [], at, at
     for k, word in enumerate(pattern):
         if word == "«":

@@ -1,15 +1,15 @@
-"""What a Rust programmer expects of a public item: attributes, derives, views in parameters, the original's `Pixel`.
+"""The public interface in Rust: attributes, derives, views as parameters, and the original's `Pixel`.
 
-`#[inline]` stands on each public function, as the original has it, and on short private ones, which a program of
-another crate could not have inlined otherwise. `#[must_use]` stands where a call that only answers would be in vain.
+Each public function gets `#[inline]`, as in the original. Short private functions get it, too, because other crates could
+not inline them otherwise. A function that only returns a result gets `#[must_use]`.
 """
 
 from . import tables
 from .items import functions_of, items_of, parameters_of
 
 SHORT = 40
-RESULTS = ("Result<", "io::Result<", "slice::Iter<", "!")  # These say so themselves.
-# The words of a parameter up to the type of its pixels, and the trait and its call that take their place.
+RESULTS = ("Result<", "io::Result<", "slice::Iter<", "!")  # These types are `must_use` themselves.
+# The tokens of a parameter before the type of its pixels, and the trait and its method that replace them.
 VIEWS = {": & PlaneRef < '_ ,": ("AsPlaneRef", "as_plane_ref"), ": & RowsRef < '_ ,": ("AsRowsRef", "as_rows_ref")}
 
 
@@ -32,7 +32,7 @@ def rewrite_functions(source):
 
 
 def take_views(source, reach):
-    """Lets public calls that read take planes and views alike: the body takes the view before it does anything else."""
+    """Makes public functions that read accept planes and views. The body takes the view first."""
     for item in reversed(functions_of(source)):
         if item.body is None or "laws" in source.module or not reach.is_public(source, item):
             continue
@@ -49,7 +49,7 @@ def take_views(source, reach):
 
 
 def rewrite_types(source):
-    """Adds what the tables say of types, and keeps laws out of the documentation: they are for those who prove."""
+    """Adds the attributes and doc comments of the tables to types, and hides laws, which are for proofs, from the documentation."""
     for item in reversed(items_of(source)):
         if item.kind in ("struct", "enum", "const") and item.name in tables.KEPT_FOR_CONTRACTS:
             source.insert_line(item.head, "kept-for-contracts", "#[allow(dead_code)]")
@@ -81,7 +81,7 @@ def rewrite_types(source):
 
 
 def rename_pixel_calls(source):
-    """Gives the hidden trait's members names that no other trait has, so that a user's trait may have theirs."""
+    """Gives the members of the hidden trait unique names, so that they cannot clash with a user's trait."""
     inside = {at for item in items_of(source) if "PixelCalls" in (item.trait, item.name) for at in range(*item.body)}
     for at in source.places(*tables.PIXEL_CALLS):
         owner = source[at - 2] if source[at - 1] == "::" else ""
@@ -91,14 +91,14 @@ def rename_pixel_calls(source):
 
 
 def add_arms(source):
-    """Adds an arm to matches of other crates that name each variant of an error that the library says may get more. It
-    is never reached: the crates are built together, and the sources have an arm for each variant."""
+    """Adds an arm to each exhaustive `match` of another crate over an error that may get more variants. The arm is never
+    reached, because the crates are built together and the sources have an arm for each variant."""
     for at in source.places("match"):
         opening = source.following(at, "{")
         closing = source.closing(opening)
         names = [source[k] for k in range(opening, closing) if source[k + 1] == "=>"]
         if source[opening + 1] in tables.OWN_ERRORS and not any(name == "_" or name.islower() for name in names):
             if source[closing - 1] not in (",", "}"):
-                source.refuse(closing, "a last arm without a comma")
+                source.refuse(closing, "the last arm has no comma")
             arm = '_ => unreachable!("an error that the sources do not know"),'
             source.insert(closing, "error-arm", arm, source.tokens[closing].lead + "    ")

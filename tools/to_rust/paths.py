@@ -1,7 +1,7 @@
-"""Paths: where the items of other crates, and of Rattle's `std`, are in Rust, and which of them users can name.
+"""Paths: the Rust paths of items of other crates and of Rattle's `std`, and the items that users can name.
 
-A crate becomes a module, so `crate::` and the name of a crate at the front of a path get the way to it. An import of
-`std` is looked up name by name.
+A crate becomes a module, so `crate::` or the name of a crate at the beginning of a path becomes the path of the module.
+The names of an import of `std` are looked up one by one.
 """
 
 from . import tables
@@ -11,12 +11,12 @@ STD = ("std", "std_alloc", "thiserror", "core")
 
 
 def home_of(crate):
-    """Returns the Rust crate that a source crate becomes a part of."""
+    """Returns the Rust crate that contains a source crate."""
     return next((home for home, group in tables.HOMES.items() if crate in group), None)
 
 
 def module_of(source, crate):
-    """Returns the path of a source crate, as this source names it in Rust, or nothing."""
+    """Returns the Rust path by which this source names a source crate, or None."""
     if crate in tables.BY_HAND:
         return tables.BY_HAND[crate]
     if home_of(crate) == home_of(source.crate):
@@ -25,19 +25,19 @@ def module_of(source, crate):
 
 
 def leaves_of(source, start, end):
-    """Returns the paths that a tree of imports has, each with the name it is given, or nothing."""
+    """Returns the paths of a tree of imports, each with its new name or None."""
     at = next((at for at in range(start, end) if source[at] in ("{", "as")), end)
     prefix = "::".join(source[k] for k in range(start, at) if source[k] != "::")
     if at == end or source[at] == "as":
         return [(prefix, source[at + 1] if at < end else None)]
     if source.closing(at) + 1 != end:
-        source.refuse(at, "an import that is not known here: something follows its names")
+        source.refuse(at, "unknown import: something follows its names")
     leaves = [leaf for part in source.elements(at) for leaf in leaves_of(source, *part)]
     return [(prefix if path == "self" else f"{prefix}::{path}", name) for path, name in leaves]
 
 
 def rewrite_imports(source):
-    """Rewrites the imports of Rattle's `std`. Those that have no place in Rust are left out."""
+    """Rewrites the imports of Rattle's `std`. Imports that Rust does not need are removed."""
     for item in reversed(items_of(source)):
         start = item.keyword + 1
         if item.kind == "use" and source[start] in STD:
@@ -49,7 +49,7 @@ def rewrite_imports(source):
 
 
 def from_here(source, path):
-    """Returns the path of something of the library, or of a program's own support, as a source names it."""
+    """Returns the path by which a source names an item of the library or of the support module of a program."""
     home = home_of(source.crate)
     if path.startswith(home + "::"):
         return path.replace(home, "crate", 1)
@@ -57,7 +57,7 @@ def from_here(source, path):
 
 
 def import_text(paths):
-    """Returns the imports of these paths, those of one module together."""
+    """Returns the imports of these paths, one import for each module."""
     groups = {}
     for path in paths:
         module, _, name = path.rpartition("::")
@@ -67,14 +67,14 @@ def import_text(paths):
 
 
 def rewrite_roots(source):
-    """Puts the way to a crate in front of paths that begin with `crate` or with the name of a crate."""
+    """Replaces `crate`, or the name of a crate, at the beginning of a path by the path of the crate's module."""
     for at in source.places("::"):
         at -= 1
         crate = source.crate if source[at] == "crate" else source[at]
         if source[at - 1] == "::" or source.tokens[at].edit is not None:
             continue
         if crate in STD and source[at - 1] != "use":
-            source.refuse(at, "a path of `std` in the middle of code")
+            source.refuse(at, "a path of `std` outside of an import")
         if home_of(crate) or crate in tables.PUBLIC_NAMES or crate in tables.BY_HAND:
             path = module_of(source, crate)
             if path is None:
@@ -83,7 +83,7 @@ def rewrite_roots(source):
 
 
 def add_imports(source):
-    """Imports what Rattle has without an import, and what calls were renamed to."""
+    """Imports the names that Rattle provides without an import, and the traits of renamed calls."""
     wanted = set()
     for at, token in enumerate(source.tokens):
         word, target = token.text, source[at + 3]
@@ -107,7 +107,7 @@ def add_imports(source):
 
 
 class Reach:
-    """What users of a Rust crate can name: the public names of modules and items by crate and path."""
+    """The items that users of a Rust crate can name: the public names of modules and items by crate and path."""
 
     def __init__(self, sources):
         self.sources = {(source.crate, source.module): source for source in sources}
@@ -118,7 +118,7 @@ class Reach:
         self.types = {(crate, path[-1]) for crate, path in self.names if path}
 
     def note(self, crate, path, name):
-        """Notes a public item by the first name that leads to it, or a public module, and goes through that."""
+        """Records the first public name of an item. For a module, it continues with the items of the module."""
         source = self.sources.get((crate, path))
         if (crate, path) in self.names:
             return
@@ -128,7 +128,7 @@ class Reach:
             if item.owner is not None or not item.is_public():
                 continue
             if item.kind in ("type", "static") or item.kind == "mod" and item.body:
-                source.refuse(item.keyword, f"a public `{item.kind}`, by whose name functions would have no tests")
+                source.refuse(item.keyword, f"a public `{item.kind}`, through which functions could be called without their tests")
             elif item.kind == "use":
                 for leaf, alias in leaves_of(source, item.keyword + 1, item.end - 1):
                     self.follow(source, item, leaf.split("::"), f"{name}::{alias or leaf.rpartition('::')[2]}")
@@ -136,7 +136,7 @@ class Reach:
                 self.note(crate, (*path, item.name), f"{name}::{item.name}")
 
     def follow(self, source, item, parts, name, passed=()):
-        """Follows a public import, past those it leads through, to a module or to an item of one."""
+        """Follows a public import, also through other imports, to a module or to an item of a module."""
         crate, path = source.crate, (*source.module, *parts)
         if parts[0] == "crate" or (parts[0], ()) in self.sources:
             crate, path = crate if parts[0] == "crate" else parts[0], tuple(parts[1:])
@@ -151,7 +151,7 @@ class Reach:
                 if path[-1] == (alias or leaf.rpartition("::")[2]):
                     self.follow(home, it, leaf.split("::"), name, (*passed, (crate, path)))
                     return
-        source.refuse(item.keyword, f"a public import that leads nowhere: {'::'.join(parts)}")
+        source.refuse(item.keyword, f"a public import of an unknown item: {'::'.join(parts)}")
 
     def is_public(self, source, item):
         """Returns whether users can call a function."""

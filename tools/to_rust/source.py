@@ -1,7 +1,7 @@
-"""A source while it is being translated: its tokens, and the changes that were made to them.
+"""A source during its translation: its tokens, and the changes to them.
 
-Tokens change in two functions alone, `Source.replace` and `Source.erase`, and each change names its rule: so each token
-of the output either is the source's own or belongs to a change.
+Only two functions change tokens, `Source.replace` and `Source.erase`, and each change names its rule. Each token of the
+output is therefore either a token of the source or belongs to a change.
 """
 
 import re
@@ -12,7 +12,7 @@ from .tokens import Refused, tokens_of, words_of
 
 CLOSING = {"(": ")", "[": "]", "{": "}"}
 
-# One change: by what rule, what stood there and what stands there now.
+# One change: its rule, the old text and the new text.
 Edit = namedtuple("Edit", "rule old new")
 
 
@@ -31,7 +31,7 @@ class Source:
         return len(self.tokens)
 
     def kind(self, at):
-        """Returns the kind of a token, and nothing where there is none."""
+        """Returns the kind of a token, or an empty text outside of the source."""
         return self.tokens[at].kind if 0 <= at < len(self.tokens) else ""
 
     def is_word(self, at):
@@ -39,24 +39,24 @@ class Source:
         return self.kind(at) == "word"
 
     def matches(self, at, words):
-        """Returns whether the tokens at `at` are these words, which blanks part."""
+        """Returns whether the tokens at `at` are these texts, which are separated by blanks."""
         return all(self[at + k] == word for k, word in enumerate(words.split()))
 
     def places(self, *texts):
-        """Returns where these texts stand, the last one first: a change leaves those before where they are."""
+        """Returns the places of these texts, the last one first, because a change does not move the places before it."""
         return [at for at in reversed(range(len(self))) if self.tokens[at].text in texts]
 
     def clauses_of(self, item, word):
-        """Returns what a function required, or what it ensured."""
+        """Returns the preconditions (`requires`) or the postconditions (`ensures`) of a function."""
         return [clause for clause in self.clauses.get(self.tokens[item.keyword], ()) if clause.word == word]
 
     def refuse(self, at, message):
-        """Raises the error that names this token's place."""
+        """Raises an error with the place of this token."""
         raise Refused(self.tokens[min(at, len(self) - 1)].place, message)
 
     def replace(self, start, end, rule, text, lead=None):
-        """Puts a text in place of the tokens from `start` up to `end`, and returns where the new ones end. The first
-        stands where the first old one stood, unless a lead is given. Without a text they are taken away."""
+        """Replaces the tokens from `start` to `end` by a text, and returns the end of the new tokens. The first new token gets
+        the lead of the first old token, unless a lead is given. An empty text removes the tokens."""
         if not text:
             return self.erase(start, end, rule)
         near, edit = self.tokens[start], self.note(rule, start, self.words(start, end), text)
@@ -68,38 +68,38 @@ class Source:
         return start + len(new)
 
     def insert(self, at, rule, text, lead):
-        """Puts a text in front of the token at `at`."""
+        """Inserts a text in front of the token at `at`."""
         return self.replace(at, at, rule, text, lead)
 
     def insert_line(self, at, rule, text):
-        """Puts a line in front of the line that begins at `at`."""
+        """Inserts a line in front of the line that begins at `at`."""
         end = self.insert(at, rule, text, self.tokens[at].lead)
         self.tokens[end].lead = self.line_start(end)
 
     def line_start(self, at):
-        """Returns the lead of one more line, in the column of the token at `at`, with which a line begins."""
+        """Returns the lead of a new line with the indentation of the line that begins at `at`."""
         return "\n" + self.tokens[at].lead.rpartition("\n")[2]
 
     def erase(self, start, end, rule):
-        """Takes the tokens from `start` up to `end` away."""
+        """Removes the tokens from `start` to `end`."""
         self.note(rule, start, self.words(start, end))
         lead = lead_after(self[start - 1], self.tokens[start].lead, self.tokens[end])
         del self.tokens[start:end]
         self.tokens[start].lead = lead
 
     def erase_listed(self, start, end, rule):
-        """Erases an element of a list, with the comma that parts it from the next or from the one before."""
+        """Removes an element of a list, with the comma after it or before it."""
         self.erase(start - (self[end] != "," and self[start - 1] == ","), end + (self[end] == ","), rule)
 
     def note(self, rule, at, old, new=""):
-        """Notes a change, and returns it. What was left out may be a part of a text or a comment."""
+        """Records a change, and returns it. The old text may be a part of a doc comment or of a comment."""
         if rule not in RULES:
-            self.refuse(at, f"a change by a rule that is not in the table: {rule}")
+            self.refuse(at, f"the table has no rule {rule}")
         self.edits.append(Edit(rule, old, new))
         return self.edits[-1]
 
     def following(self, at, *texts):
-        """Returns where the first of these texts stands, outside of brackets, from `at` on."""
+        """Returns the first place of one of these texts from `at` on, outside of brackets."""
         start = at
         while self[at] not in texts:
             if at >= len(self):
@@ -108,18 +108,18 @@ class Source:
         return at
 
     def closing(self, at):
-        """Returns where the bracket that opens at `at` closes, or the list of types that `<` opens."""
+        """Returns the place of the closing bracket for the bracket at `at`, or of the `>` for a `<` at `at`."""
         closing = CLOSING.get(self[at], ">")
         end = at + 1
         while (text := self[end]) != closing:
             if text in (")", "]", "}", "") or closing == ">" and text == ";":
-                self.refuse(at, "a bracket does not close")
+                self.refuse(at, "an unclosed bracket")
             opens = text in CLOSING or closing == ">" and text == "<"
             end = self.closing(end) + 1 if opens else end + 1
         return end
 
     def elements(self, opening, types=False):
-        """Returns where the elements of a list in brackets begin and end. In a list of types `<` opens a list, too."""
+        """Returns the beginning and the end of each element of a list in brackets. In a list of types, `<` counts as a bracket."""
         parts, start, at, closing = [], opening + 1, opening + 1, self.closing(opening)
         while at <= closing:
             if at == closing or self[at] == ",":
@@ -131,27 +131,27 @@ class Source:
         return parts
 
     def words(self, start, end):
-        """Returns the tokens from `start` up to `end` on one line."""
+        """Returns the tokens from `start` to `end` on one line."""
         return words_of(self.tokens[start:end])
 
     def text(self):
-        """Returns the text of the translation, once it is sure that its tokens are what the list of changes says: those
-        that no change made are the source's, read anew, in their order; and the text is read as these tokens."""
+        """Returns the text of the translation, after two checks. The tokens outside of changes must be the tokens of the
+        source, which is read again, in order. And the text must be read back as the same tokens."""
         tidy(self.tokens)
         text = "".join(token.lead + token.text for token in self.tokens)
         for token, read in zip(self.tokens, tokens_of(text, self.path)):
             if token.text != read.text:
-                raise Refused(token.place, f"`{token.text}` is read as `{read.text}`")
+                raise Refused(token.place, f"`{token.text}` is read back as `{read.text}`")
         left = iter(token.text for token in tokens_of(self.original, self.path))
         for token in self.tokens:
             if token.edit is None and token.text not in left:
-                raise Refused(token.place, f"`{token.text}` is no token of the source in its order")
+                raise Refused(token.place, f"`{token.text}` is not the next token of the source")
         return text
 
 
 def lead_after(before, lead, after):
-    """Returns what stands in front of a token once those before it, the first with this lead, are gone: the lead with
-    more lines, and on one line what rustfmt would put there."""
+    """Returns the lead of a token after the tokens before it were removed; `lead` is the lead of the first of these. The
+    result is the lead with more lines, or on one line the lead that rustfmt would use."""
     closes = after.text in (",", ";", ")", "]", ">", ":", "}", "?", ".", "")
     if after.text == ";":
         return ""
@@ -164,7 +164,7 @@ def lead_after(before, lead, after):
 
 
 def tidy(tokens):
-    """Closes the gaps that blocks and texts have without their tokens, as rustfmt would do."""
+    """Removes the blank lines that removed tokens left behind, as rustfmt would."""
     before = ""
     for token in tokens:
         if not token.lead.strip() and "\n" in token.lead and (before == "{" or token.text == "}"):

@@ -1,14 +1,14 @@
-"""Tokens of a source: words, marks, numbers, texts, lifetimes and lines of documentation.
+"""Tokens of a source: words, marks, numbers, strings, lifetimes and doc comment lines.
 
-What stands between two tokens, blanks and comments, is the `lead` of the second one, so that tokens written one after
-the other, each behind its lead, are the source again.
+The blanks and comments between two tokens are the `lead` of the second token. All tokens in order, each after its lead,
+are the text of the source.
 """
 
 import re
 
 
 class Refused(Exception):
-    """Something in a source that the program does not know."""
+    """An unknown form in a source."""
 
     def __init__(self, place, message):
         super().__init__(f"{place}: {message}")
@@ -38,7 +38,7 @@ FORM = re.compile("|".join([
 
 
 def tokens_of(text, path, edit=None):
-    """Returns the tokens of a text. The last one, of kind `end`, has no text and the lead at the end of the file."""
+    """Returns the tokens of a text. The last token, of kind `end`, has an empty text and the lead at the end of the file."""
     tokens, at, line = [], 0, 1
     while True:
         start = LEAD.match(text, at).end()
@@ -54,5 +54,5 @@ def tokens_of(text, path, edit=None):
 
 
 def words_of(tokens):
-    """Returns these tokens on one line, without comments, with a blank wherever there was one."""
+    """Returns these tokens on one line, without comments. A blank separates two tokens that were separated."""
     return "".join((" " if token.lead and k else "") + token.text for k, token in enumerate(tokens))

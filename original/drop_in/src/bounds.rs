@@ -1,4 +1,4 @@
-//! What a generic function may ask of a pixel.
+//! Uses the bounds that a generic function may put on a pixel.
 
 use std::any::type_name;
 use std::collections::{BTreeSet, HashSet};
@@ -7,7 +7,7 @@ use std::fmt::{Binary, Debug, Display, LowerExp, LowerHex, Octal, UpperExp, Uppe
 use std::hash::Hash;
 use v_frame::pixel::Pixel;
 
-/// Prints pixels of a type in each way that the trait gives.
+/// Prints pixels of a type in each way that the trait provides.
 pub fn print<T: Pixel>() {
     for number in [0, 1, 9, 255] {
         let pixel: T = T::from(number);
@@ -25,7 +25,7 @@ pub fn print<T: Pixel>() {
     println!("{} {}", type_name::<T>(), size_of::<T>());
 }
 
-/// The byte of a pixel, or the text of the error.
+/// Returns the byte of a pixel, or the text of the error.
 fn byte_of<T: Pixel>(pixel: T) -> Result<u8, String> {
     pixel.try_into().map_err(|error| text_of(&error))
 }
@@ -47,7 +47,7 @@ fn print_set<T: Default + Ord + Hash + Copy + From<u8> + Debug + Send + Sync + '
     println!("{:?} {:?}", pixels.iter().max(), pixels[0].clamp(T::from(1), T::from(2)));
 }
 
-/// The type of the number is found from `Pixel` alone.
+/// Checks that the compiler infers the type of the number from `Pixel`.
 fn print_sum<T: Pixel>(pixels: &[T]) {
     let sum: u64 = pixels.iter().map(|&pixel| pixel.into()).map(u64::from).sum();
     let mean = pixels.iter().map(|pixel| f64::from((*pixel).into())).sum::<f64>() / pixels.len() as f64;

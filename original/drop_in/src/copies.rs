@@ -1,11 +1,11 @@
-//! Copies into planes.
+//! Copies pixels and bytes into planes.
 
 use crate::frames::numbered;
 use std::error::Error;
 use v_frame::pixel::Pixel;
 use v_frame::plane::{CopyError, Plane};
 
-/// Prints planes after copies, and why others are refused.
+/// Prints planes after copies, and the errors of invalid copies.
 pub fn print<T: Pixel>(depth: u8) -> Result<(), Box<dyn Error>> {
     let mut frame = numbered::<T>(depth)?;
     let plane = &mut frame.y_plane;
@@ -23,7 +23,7 @@ pub fn print<T: Pixel>(depth: u8) -> Result<(), Box<dyn Error>> {
     Ok(())
 }
 
-/// Prints why these copies are refused.
+/// Prints the errors of these copies.
 fn print_refused<T: Pixel>(plane: &mut Plane<T>, pixels: &[T], bytes: &[u8]) {
     let refused = [
         plane.copy_from_slice(&pixels[1..]),

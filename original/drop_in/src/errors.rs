@@ -1,4 +1,4 @@
-//! Errors: their texts, and what they can be.
+//! Uses errors: their texts and their variants.
 
 use std::collections::HashSet;
 use std::error::Error;
@@ -26,7 +26,7 @@ impl From<CopyError> for ReadError {
     }
 }
 
-/// Prints the errors of both kinds.
+/// Prints the errors of both types.
 pub fn print() {
     let frames = [FrameError::UnsupportedBitDepth { found: 17 }, FrameError::DataTypeMismatch, FrameError::UnsupportedResolution];
     print_errors(frames);
@@ -50,7 +50,7 @@ fn print_errors<E: Error + Copy + Eq + Hash, const N: usize>(errors: [E; N]) {
     }
 }
 
-/// The last arm is for errors that a later version may have.
+/// The last arm is for errors that a later version may add.
 #[allow(unreachable_patterns)]
 fn reason(error: FrameError) -> String {
     match error {
@@ -61,7 +61,7 @@ fn reason(error: FrameError) -> String {
     }
 }
 
-/// Reads a plane of bytes, as a user's function does.
+/// Reads a plane of bytes, as a user's function would.
 fn read(depth: u8, length: usize) -> Result<usize, ReadError> {
     let mut frame = FrameBuilder::new(2, 2, ChromaSubsampling::Monochrome, depth).build::<u8>()?;
     frame.y_plane.copy_from_slice(&[1, 2, 3, 4][..length])?;

@@ -1,4 +1,4 @@
-//! The formats of frames.
+//! Uses the formats of frames.
 
 use std::num::NonZeroU8;
 use v_frame::chroma::ChromaSubsampling;
@@ -7,10 +7,10 @@ use v_frame::chroma::ChromaSubsampling;
 pub const FORMATS: [ChromaSubsampling; 4] =
     [ChromaSubsampling::Yuv420, ChromaSubsampling::Yuv422, ChromaSubsampling::Yuv444, ChromaSubsampling::Monochrome];
 
-/// Sizes of luma: even, odd, and large ones.
+/// Sizes of luma: even sizes, odd sizes and large sizes.
 const SIZES: [(usize, usize); 7] = [(16, 8), (15, 8), (16, 7), (1, 1), (0, 0), (usize::MAX, usize::MAX - 1), (usize::MAX - 1, 4)];
 
-/// Prints what each format says of itself.
+/// Prints the properties of each format.
 pub fn print() {
     for format in FORMATS {
         let ratio: Option<(NonZeroU8, NonZeroU8)> = format.subsample_ratio();
@@ -26,7 +26,7 @@ pub fn print() {
     println!("{}", matches!(copied, ChromaSubsampling::Yuv420) && copied == FORMATS[0].clone());
 }
 
-/// The last arm is for formats that a later version may have.
+/// The last arm is for formats that a later version may add.
 #[allow(unreachable_patterns)]
 fn short_name(format: ChromaSubsampling) -> &'static str {
     match format {

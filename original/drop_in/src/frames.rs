@@ -1,4 +1,4 @@
-//! Frames, and how they are built.
+//! Builds frames.
 
 use crate::formats::FORMATS;
 use std::error::Error;
@@ -16,7 +16,7 @@ const SETTERS: [fn(FrameBuilder, usize) -> FrameBuilder; 4] = [
     FrameBuilder::luma_padding_bottom,
 ];
 
-/// Builds a frame of 8 by 4 with a border, in which each entry of a plane's buffer has another value.
+/// Builds a frame of 8 by 4 with a border. Each entry of the buffer of a plane has another value.
 pub fn numbered<T: Pixel>(depth: u8) -> Result<Frame<T>, FrameError> {
     let mut frame = FrameBuilder::new(8, 4, ChromaSubsampling::Yuv420, depth)
         .luma_padding_left(2)
@@ -33,7 +33,7 @@ pub fn numbered<T: Pixel>(depth: u8) -> Result<Frame<T>, FrameError> {
     Ok(frame)
 }
 
-/// Prints frames of each format, their parts, and builds that are refused.
+/// Prints frames of each format, their parts, and the errors of builds.
 pub fn print() -> Result<(), Box<dyn Error>> {
     for format in FORMATS {
         let frame = FrameBuilder::new(4, 2, format, 8).build::<u8>()?;
@@ -57,7 +57,7 @@ fn print_planes<T: Pixel>(frame: &Frame<T>) {
     }
 }
 
-/// Prints why there are no frames of these numbers.
+/// Prints the errors of builds with these numbers.
 fn print_refused() {
     let yuv420 = ChromaSubsampling::Yuv420;
     let bytes = |width, height, depth| FrameBuilder::new(width, height, yuv420, depth).build::<u8>().map(drop);
@@ -74,7 +74,7 @@ fn print_refused() {
     println!("{}", odd.is_ok_and(|it| it.u_plane.is_some_and(|plane| plane.width() == 5)));
 }
 
-/// Prints a frame that is taken apart and put together.
+/// Prints a frame that is taken apart and put together again.
 fn print_parts(frame: Frame<u8>) -> Result<(), Box<dyn Error>> {
     let mut gray = Frame { u_plane: None, v_plane: None, subsampling: ChromaSubsampling::Monochrome, ..frame.clone() };
     print_planes(&gray);

@@ -1,4 +1,4 @@
-//! The layout of planes.
+//! Uses the layout of planes.
 
 use crate::formats::FORMATS;
 use v_frame::plane::{PlaneGeometry, SubsamplingError};
@@ -17,7 +17,7 @@ const GETTERS: [(&str, fn(&PlaneGeometry) -> usize); 10] = [
     ("alloc_size", PlaneGeometry::alloc_size),
 ];
 
-/// Prints geometries, those that there can't be, and those of chroma.
+/// Prints valid geometries, numbers without a geometry, and geometries of chroma.
 pub fn print() {
     let padded = PlaneGeometry::new(12, 6, 4, 8, 2, 6, 1, 1);
     let odd = PlaneGeometry::new(12, 6, 3, 8, 1, 6, 2, 4);
@@ -45,7 +45,7 @@ fn print_getters(geometry: &PlaneGeometry) {
     println!("{ratio:?}");
 }
 
-/// Prints that there is no geometry of these numbers.
+/// Prints that these numbers have no geometry.
 fn print_refused() {
     let refused = [
         PlaneGeometry::new(0, 1, 0, 0, 0, 0, 1, 1),

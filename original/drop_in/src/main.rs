@@ -1,10 +1,9 @@
-//! Uses all that `v_frame` 0.7.0 offers, and prints what each call gives.
+//! Uses everything that `v_frame` 0.7.0 offers, and prints the result of each call.
 //!
-//! It is written for 0.7.0, as any program of a user. With the line of the dependency changed to `v_frame_proved`, and nothing
-//! else, it has to build, and to print the same lines: `tools/compare-with-original --drop-in`. What such a program can't keep
-//! is what the pages list as a difference: a `match` of the formats or of `FrameError` needs a last arm, which other versions of
-//! a crate ask for as well, no trait here has methods that frames have there, and `new_uninit` is used through the traits of
-//! `uninit`.
+//! The program is written for 0.7.0, as a user would write it. With the line of the dependency changed to `v_frame_proved`, and nothing
+//! else, it has to build and to print the same lines: run `tools/compare-with-original --drop-in`. `original/README.md` lists what a
+//! program for 0.7.0 would have to change, and this program avoids each of these forms: a `match` of the formats or of `FrameError`
+//! has a last arm, no trait has methods with the names of methods of frames, and `new_uninit` is used through the traits of `uninit`.
 #![allow(clippy::clone_on_copy, clippy::type_complexity, reason = "each trait is used once, and each getter as a function")]
 
 mod bounds;
@@ -34,7 +33,7 @@ fn main() -> Result<(), Box<dyn Error>> {
     Ok(())
 }
 
-/// Prints what is generic over pixels, for pixels of this type.
+/// Prints the results of generic functions for pixels of type `T`.
 fn typed<T: v_frame::pixel::Pixel>(name: &str, depth: u8) -> Result<(), Box<dyn Error>> {
     println!("pixels of {name}");
     bounds::print::<T>();

@@ -1,4 +1,4 @@
-//! Planes that are read.
+//! Reads planes.
 
 use crate::frames::numbered;
 use std::error::Error;
@@ -34,7 +34,7 @@ fn print_rows<T: Pixel>(plane: &Plane<T>) {
     println!("{:?}", brightest(plane).map(|row| row.len()));
 }
 
-/// The row that a user's function picks, with the lifetime of the plane.
+/// Returns the row that a user's function chooses, with the lifetime of the plane.
 fn brightest<T: Pixel>(plane: &Plane<T>) -> Option<&[T]> {
     plane.rows().max_by_key(|row| row.iter().map(|pixel| u32::from((*pixel).into())).sum::<u32>())
 }

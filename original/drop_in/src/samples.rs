@@ -1,10 +1,10 @@
-//! A trait of a user beside `Pixel`, with names of its own.
+//! Declares a user's trait beside `Pixel`, with different names.
 
 use v_frame::frame::Frame;
 use v_frame::pixel::Pixel;
 use v_frame::plane::Plane;
 
-/// What a program wants of a pixel.
+/// The operations that a user's program needs of a pixel.
 trait Sample: Sized {
     const ZERO: Self;
     const BYTES: usize;
@@ -50,7 +50,7 @@ macro_rules! sample {
 sample!(u8);
 sample!(u16);
 
-/// A call of a user on each plane.
+/// A user's call on each plane.
 trait Halve {
     fn halve(&mut self);
 }

@@ -1,4 +1,4 @@
-//! Planes and frames that threads share.
+//! Shares planes and frames between threads.
 
 use crate::frames::numbered;
 use std::error::Error;
@@ -10,13 +10,13 @@ use v_frame::frame::{Frame, FrameBuilder, FrameError};
 use v_frame::pixel::Pixel;
 use v_frame::plane::{CopyError, Plane, PlaneGeometry, SubsamplingError};
 
-/// Frames of both types, as decoders hand them out.
+/// Frames of both pixel types, as a decoder returns them.
 enum AnyFrame {
     Eight(Frame<u8>),
     More(Frame<u16>),
 }
 
-/// Prints sums that threads make.
+/// Prints sums that threads compute.
 pub fn print() -> Result<(), Box<dyn Error>> {
     shared::<Plane<u8>>();
     shared::<Frame<u16>>();
@@ -32,7 +32,7 @@ pub fn print() -> Result<(), Box<dyn Error>> {
     Ok(())
 }
 
-/// Compiles where threads can share the type, and a caught panic can leave it.
+/// Compiles only if threads can share the type, and if it can leave a caught panic.
 fn shared<T: Send + Sync + Unpin + UnwindSafe + RefUnwindSafe + 'static>() {}
 
 fn sum_by_threads<T: Pixel>(frame: Frame<T>) -> u64 {
@@ -52,7 +52,7 @@ fn sum_by_threads<T: Pixel>(frame: Frame<T>) -> u64 {
     *sum
 }
 
-/// Fills each row of the planes in a thread of its own.
+/// Fills each row of the planes in a separate thread.
 fn filled_by_threads<T: Pixel>(mut frame: Frame<T>) -> u64 {
     let Frame { y_plane, u_plane, v_plane, .. } = &mut frame;
     let planes = [Some(y_plane), u_plane.as_mut(), v_plane.as_mut()];

@@ -1,15 +1,15 @@
-//! Planes that are filled entry by entry before they are read.
+//! Fills planes entry by entry before they are read.
 //!
-//! Here alone the crates differ: `new_uninit` gives a plane of `MaybeUninit`, or a `Result` of a plane of options, and
-//! `assume_init` a plane, or a `Result`. A program that names these types has to be changed. This one uses them by two traits, so
-//! that it builds over both.
+//! The crates differ only here. `new_uninit` returns a plane of `MaybeUninit`, or a `Result` with a plane of options; `assume_init`
+//! returns a plane, or a `Result`. A program that names these types has to be changed. This program uses them through two traits, so
+//! it builds over both crates.
 
 use std::error::Error;
 use std::fmt::Debug;
 use std::mem::MaybeUninit;
 use v_frame::plane::{Plane, PlaneGeometry};
 
-/// An entry that a value is written into.
+/// An entry into which a value is written.
 trait Empty<T> {
     fn put(&mut self, value: T);
 }
@@ -26,7 +26,7 @@ impl<T> Empty<T> for Option<T> {
     }
 }
 
-/// A plane, or a `Result` of one.
+/// A plane, or a `Result` with a plane.
 trait Given<P> {
     fn given(self) -> Option<P>;
 }
@@ -43,7 +43,7 @@ impl<P, E> Given<P> for Result<P, E> {
     }
 }
 
-/// Prints planes of which each entry was written.
+/// Prints planes after each entry was written.
 pub fn print() -> Result<(), Box<dyn Error>> {
     let geometry = PlaneGeometry::new(3, 2, 1, 0, 0, 1, 1, 1).ok_or("no geometry")?;
     print_filled(geometry, |number| number as u8);
@@ -63,7 +63,7 @@ fn print_filled<T: Debug + Clone + PartialEq>(geometry: PlaneGeometry, value: im
     println!("{:?} {:?} {} {}", plane.data().first(), plane.geometry() == geometry, plane.width(), plane.height());
 }
 
-/// Returns a plane whose entries are made from their indexes.
+/// Returns a plane whose entries are computed from their indexes.
 fn filled<T>(geometry: PlaneGeometry, value: impl Fn(usize) -> T) -> Option<Plane<T>> {
     let mut plane = Plane::<T>::new_uninit(geometry).given()?;
     for (number, entry) in plane.data_mut().iter_mut().enumerate() {

@@ -1,4 +1,4 @@
-//! Planes and frames as values: clones, equality and debug texts.
+//! Uses planes and frames as values: clones, equality and debug texts.
 
 use crate::frames::numbered;
 use std::error::Error;
@@ -7,7 +7,7 @@ use v_frame::frame::Frame;
 use v_frame::pixel::Pixel;
 use v_frame::plane::Plane;
 
-/// A frame in a type of a user.
+/// A frame in a user's type.
 #[derive(Debug, Clone, PartialEq, Eq)]
 struct Shown<T: Pixel> {
     number: u64,

@@ -1,4 +1,4 @@
-//! Planes that are written.
+//! Writes planes.
 
 use crate::frames::numbered;
 use std::error::Error;
@@ -24,7 +24,7 @@ pub fn print<T: Pixel>(depth: u8) -> Result<(), Box<dyn Error>> {
     Ok(())
 }
 
-/// Writes rows: by their number, and those that an iterator lends.
+/// Writes rows: rows by number, and rows that an iterator lends.
 fn write_rows<T: Pixel>(plane: &mut Plane<T>) -> Result<(), Box<dyn Error>> {
     let row: &mut [T] = plane.row_mut(1).ok_or("no row 1")?;
     row.fill(T::from(200));
@@ -37,7 +37,7 @@ fn write_rows<T: Pixel>(plane: &mut Plane<T>) -> Result<(), Box<dyn Error>> {
     Ok(())
 }
 
-/// Exchanges the first row and the last one, which are held at once.
+/// Exchanges the first row and the last row while both are lent.
 fn exchange_ends<T: Pixel>(plane: &mut Plane<T>) {
     let mut rows = plane.rows_mut();
     println!("{} {:?}", rows.len(), rows.size_hint());
@@ -60,7 +60,7 @@ fn write_pixels<T: Pixel>(plane: &mut Plane<T>) {
     }
 }
 
-/// Writes entries by column and row: visible ones, one of the border, and none past the end.
+/// Writes entries by column and row: visible entries, one border entry, and none past the end.
 fn write_places<T: Pixel>(plane: &mut Plane<T>) {
     for (x, y, value) in [(0, 0, 11), (7, 3, 12), (8, 0, 13), (14, 2, 14), (0, 9, 15), (1, 400, 16)] {
         match plane.pixel_mut(x, y) {

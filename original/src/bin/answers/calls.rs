@@ -1,4 +1,4 @@
-//! Calls on a plane of a frame, and their answers.
+//! Makes calls on a plane of a frame, and prints their results.
 
 use crate::print::{print_option, print_row};
 use crate::tokens::{Read, Side, Tokens};
@@ -7,7 +7,7 @@ use v_frame::frame::Frame;
 use v_frame::pixel::Pixel;
 use v_frame::plane::{CopyError, Plane};
 
-/// Makes the call of a line, and prints its answer.
+/// Makes the call of a line, and prints its result.
 pub fn answer<T: Pixel>(frame: &mut Frame<T>, tokens: &mut Tokens, out: &mut String) -> Read<()> {
     let name = tokens.word()?;
     let index = tokens.size()?;
@@ -35,7 +35,7 @@ pub fn answer<T: Pixel>(frame: &mut Frame<T>, tokens: &mut Tokens, out: &mut Str
     tokens.end()
 }
 
-/// The same of the calls that write.
+/// Makes the call of a line that writes, and prints its result.
 fn answer_write<T: Pixel>(
     name: &str,
     plane: &mut Plane<T>,
@@ -102,7 +102,7 @@ fn answer_write<T: Pixel>(
     Ok(())
 }
 
-/// The pixel of a place in the visible rectangle.
+/// Returns the pixel at a place of the visible rectangle.
 fn visible<T: Pixel>(plane: &mut Plane<T>, x: usize, y: usize) -> Option<&mut T> {
     if x < plane.width() && y < plane.height() {
         plane.pixel_mut(x, y)
@@ -111,7 +111,7 @@ fn visible<T: Pixel>(plane: &mut Plane<T>, x: usize, y: usize) -> Option<&mut T>
     }
 }
 
-/// Takes an item from a side.
+/// Takes an item from one side of an iterator.
 fn drawn<I: DoubleEndedIterator>(items: &mut I, side: Side) -> Option<I::Item> {
     match side {
         Side::Front => items.next(),
@@ -119,7 +119,7 @@ fn drawn<I: DoubleEndedIterator>(items: &mut I, side: Side) -> Option<I::Item> {
     }
 }
 
-/// Takes items from the sides of a line, and prints each with how many are left.
+/// Takes items from the sides that a line lists. Prints each item with the number of items that are left.
 fn walk<I: DoubleEndedIterator + ExactSizeIterator>(
     name: &str,
     mut items: I,
@@ -136,7 +136,7 @@ fn walk<I: DoubleEndedIterator + ExactSizeIterator>(
     Ok(())
 }
 
-/// Writes what is there of a list of writes into a row.
+/// Writes a list of writes into a row, up to the end of the shorter one.
 fn overwrite<T: Pixel>(row: &mut [T], writes: &[Option<T>]) {
     for (pixel, write) in row.iter_mut().zip(writes) {
         *pixel = write.unwrap_or(*pixel);

@@ -1,4 +1,4 @@
-//! Frames as a case describes them.
+//! Builds and edits the frames that a case describes.
 
 use crate::tokens::{Read, Tokens, congruence};
 use v_frame::chroma::ChromaSubsampling;
@@ -6,13 +6,13 @@ use v_frame::frame::{Frame, FrameBuilder, FrameError};
 use v_frame::pixel::Pixel;
 use v_frame::plane::{Plane, PlaneGeometry};
 
-/// What a frame should be.
+/// The description of a frame.
 pub struct Spec {
-    /// The bytes of a pixel.
+    /// The number of bytes of a pixel.
     pub bytes: usize,
     depth: u8,
     size: [usize; 2],
-    /// The format, where 0.7.0 has it.
+    /// The format, if 0.7.0 has it.
     pub format: Option<ChromaSubsampling>,
     paddings: [usize; 4],
 }
@@ -58,7 +58,7 @@ impl Spec {
             .build()
     }
 
-    /// Builds the frame of a case that makes calls. That it can't be built is a fault of the case.
+    /// Builds the frame of a case that makes calls. If it cannot be built, the case is wrong.
     pub fn frame<T: Pixel>(&self) -> Read<Frame<T>> {
         let format = self.format.ok_or("the format is lacking")?;
         if self.bytes != size_of::<T>() {
@@ -134,7 +134,7 @@ fn fill<T: Pixel>(plane: &mut Plane<T>, tokens: &mut Tokens) -> Read<()> {
     Ok(())
 }
 
-/// The entries of a buffer whose places are chosen.
+/// Returns the entries of a buffer at the chosen places.
 fn places<T>(
     plane: &mut Plane<T>,
     chosen: impl Fn(usize) -> bool,
@@ -146,7 +146,7 @@ fn places<T>(
         .filter(move |(place, _)| chosen(*place))
 }
 
-/// Writes a list into as many entries.
+/// Writes a list into the same number of entries.
 fn write_list<'a, T: Pixel>(
     entries: impl Iterator<Item = (usize, &'a mut T)>,
     tokens: &mut Tokens,
@@ -162,7 +162,7 @@ fn write_list<'a, T: Pixel>(
     }
 }
 
-/// Whether a place of the buffer shows.
+/// Returns whether a place of the buffer is visible.
 fn is_visible(geometry: &PlaneGeometry, place: usize) -> bool {
     let (x, y) = (place % geometry.stride(), place / geometry.stride());
     let columns = geometry.pad_left()..geometry.pad_left() + geometry.width();

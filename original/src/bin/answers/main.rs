@@ -1,6 +1,6 @@
-//! Reads cases from standard input, and prints what `v_frame` 0.7.0 answers to them. `original/README.md` has the format.
+//! Reads cases from standard input, and prints the results of `v_frame` 0.7.0. `original/README.md` describes the format.
 //!
-//! A format that 0.7.0 lacks is answered by a line `lacks FORMAT`, in place of a build, or of all that a case of frames answers.
+//! If 0.7.0 lacks a format, the program prints a line `lacks FORMAT` in place of a build, or in place of all results of a case with frames.
 
 mod calls;
 mod frames;
@@ -26,7 +26,7 @@ fn main() -> ExitCode {
     }
 }
 
-/// Answers case after case. Those before a fault are answered.
+/// Runs case after case. If a case is wrong, the results of the cases before it are printed.
 fn answer_input() -> Read<()> {
     let mut text = String::new();
     io::stdin().read_to_string(&mut text).map_err(|error| error.to_string())?;
@@ -39,7 +39,7 @@ fn answer_input() -> Read<()> {
     out.flush().map_err(|error| error.to_string())
 }
 
-/// What is printed for the lines of one case.
+/// Returns the output for the lines of one case.
 fn answer_case(case: &[&str]) -> Read<String> {
     let [head, body @ .., "end"] = case else {
         return Err("the case has no end".to_string());
@@ -59,7 +59,7 @@ fn answer_case(case: &[&str]) -> Read<String> {
     Ok(out)
 }
 
-/// Answers builds.
+/// Prints the results of builds.
 fn answer_builds(body: &[&str], out: &mut String) -> Read<()> {
     for line in counted(body, "calls")? {
         let mut tokens = Tokens::new(line);
@@ -74,7 +74,7 @@ fn answer_builds(body: &[&str], out: &mut String) -> Read<()> {
     Ok(())
 }
 
-/// Answers calls on one frame or on two, whose pixels have the type of the first.
+/// Prints the results of calls on one frame or on two. The first frame determines the pixel type.
 fn answer_frames(body: &[&str], is_pair: bool, out: &mut String) -> Read<()> {
     let heads = body.iter().filter_map(|line| line.strip_prefix("frame "));
     let mut specs = Vec::new();
@@ -94,7 +94,7 @@ fn answer_frames(body: &[&str], is_pair: bool, out: &mut String) -> Read<()> {
     }
 }
 
-/// The same, of pixels of this type.
+/// Prints the results of calls on frames with pixels of type `T`.
 fn answer_typed<T: Pixel>(body: &[&str], specs: &[Spec], out: &mut String) -> Read<()> {
     let mut frames: Vec<Frame<T>> = Vec::new();
     let mut rest = body;
@@ -129,7 +129,7 @@ fn print_equality<T: Pixel>(frames: &[Frame<T>], out: &mut String) {
     }
 }
 
-/// The lines after one that names their number, to the end of the case.
+/// Returns the lines after a line that states their number, to the end of the case.
 fn counted<'a, 'b>(lines: &'b [&'a str], name: &str) -> Read<&'b [&'a str]> {
     let (head, rest) = lines.split_first().ok_or("lines are missing")?;
     let mut head = Tokens::new(head);

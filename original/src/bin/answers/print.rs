@@ -1,14 +1,14 @@
-//! Rows, frames and what a build gives, as text.
+//! Prints rows, frames and the results of builds.
 
 use std::fmt::{Display, Write};
 use v_frame::frame::{Frame, FrameError};
 use v_frame::pixel::Pixel;
 use v_frame::plane::Plane;
 
-/// A longer buffer is printed as runs of equal entries.
+/// A buffer with more entries is printed as runs of equal entries.
 const LONGEST_LIST: usize = 4096;
 
-/// Prints a list, a space before each entry.
+/// Prints a list, with a space before each entry.
 pub fn print_list<T: Display>(items: &[T], out: &mut String) {
     let _ = write!(out, " {}", items.len());
     for item in items {
@@ -16,7 +16,7 @@ pub fn print_list<T: Display>(items: &[T], out: &mut String) {
     }
 }
 
-/// Prints a row, or that there is none.
+/// Prints a row, or `-` for `None`.
 pub fn print_row<T: Display>(row: Option<&[T]>, out: &mut String) {
     match row {
         Some(row) => print_list(row, out),
@@ -24,7 +24,7 @@ pub fn print_row<T: Display>(row: Option<&[T]>, out: &mut String) {
     }
 }
 
-/// Prints a pixel or a byte, or that there is none.
+/// Prints a pixel or a byte, or `-` for `None`.
 pub fn print_option<T: Display>(item: Option<T>, out: &mut String) {
     let _ = match item {
         Some(item) => write!(out, " {item}"),
@@ -32,7 +32,7 @@ pub fn print_option<T: Display>(item: Option<T>, out: &mut String) {
     };
 }
 
-/// Prints what a build gave.
+/// Prints the result of a build.
 pub fn print_build<T: Pixel>(built: Result<Frame<T>, FrameError>, out: &mut String) {
     match built {
         Ok(frame) => {

@@ -1,16 +1,16 @@
-//! The tokens of a line, and what they stand for.
+//! Reads the tokens of a line.
 
 use v_frame::pixel::Pixel;
 
-/// What is read, or what is wrong with the line.
+/// A value that was read, or a message about the fault of the line.
 pub type Read<T> = Result<T, String>;
 
-/// The tokens that are left of a line.
+/// The tokens of a line that were not read yet.
 pub struct Tokens<'a> {
     words: std::str::Split<'a, char>,
 }
 
-/// Where an item is taken from an iterator.
+/// The side of an iterator from which an item is taken.
 #[derive(Clone, Copy)]
 pub enum Side {
     Front,
@@ -30,7 +30,7 @@ impl<'a> Tokens<'a> {
             .ok_or_else(|| "a token is missing".to_string())
     }
 
-    /// Reads the token that has to stand here.
+    /// Reads a token that must be this one.
     pub fn keyword(&mut self, wanted: &str) -> Read<()> {
         let word = self.word()?;
         if word == wanted {
@@ -40,7 +40,7 @@ impl<'a> Tokens<'a> {
         }
     }
 
-    /// Sees that no token is left.
+    /// Checks that no token is left.
     pub fn end(&mut self) -> Read<()> {
         match self.words.next() {
             None => Ok(()),
@@ -64,7 +64,7 @@ impl<'a> Tokens<'a> {
         Ok(sizes)
     }
 
-    /// Reads as many entries as the number in front of them says.
+    /// Reads a number, and then that number of entries.
     pub fn list<E>(&mut self, read: impl Fn(&mut Self) -> Read<E>) -> Read<Vec<E>> {
         let count = self.size()?;
         (0..count).map(|_| read(self)).collect()
@@ -74,7 +74,7 @@ impl<'a> Tokens<'a> {
         pixel_of(self.number()?)
     }
 
-    /// A pixel, or `-` for none.
+    /// Reads a pixel, or `-` for `None`.
     pub fn option<T: Pixel>(&mut self) -> Read<Option<T>> {
         match self.word()? {
             "-" => Ok(None),
@@ -90,7 +90,7 @@ impl<'a> Tokens<'a> {
         }
     }
 
-    /// The source of a copy: a list, or numbers that follow from a seed.
+    /// Reads the source of a copy: a list, or a seed and a number of entries.
     pub fn source<T: Pixel>(&mut self) -> Read<Vec<T>> {
         match self.word()? {
             "list" => self.list(Tokens::pixel),
@@ -120,7 +120,8 @@ fn pixel_of<T: Pixel>(number: u64) -> Read<T> {
         .ok_or_else(|| format!("no pixel has the value {number}"))
 }
 
-/// The pixels of a linear congruence modulo 2^31: the upper 16 bits of each step, of which `u8` takes the lower half.
+/// Returns pixels from a linear congruential generator modulo 2^31. A `u16` is the upper 16 bits of a state, and a `u8` is the
+/// lower half of these.
 pub fn congruence<T: Pixel>(seed: u64) -> impl Iterator<Item = T> {
     let mut state = seed % (1 << 31);
     std::iter::repeat_with(move || {

@@ -1,21 +1,22 @@
-//! Blocks of two planes compared, as loops over slices of rows.
+//! Compares blocks of two planes by loops over slices of rows.
 
 use v_frame::pixel::Pixel;
 use v_frame::plane::Plane;
 
-/// Sums how far the blocks of `size` columns and rows of one plane lie from the first block of the same rows of another.
+/// Sums the absolute differences between the blocks of `size` by `size` pixels of one plane and the first block of the same rows of
+/// another plane.
 #[inline(never)]
 pub fn absolute<T: Pixel>(a: &Plane<T>, b: &Plane<T>, size: usize) -> u64 {
     compare(a, b, size, absolute_of_rows)
 }
 
-/// The same of squares.
+/// Sums the squared differences between the same blocks.
 #[inline(never)]
 pub fn squared<T: Pixel>(a: &Plane<T>, b: &Plane<T>, size: usize) -> u64 {
     compare(a, b, size, squared_of_rows)
 }
 
-/// Sums the same distances by a loop over a fixed size.
+/// Sums the absolute differences between the same blocks, by a loop over a fixed size.
 #[inline(never)]
 pub fn absolute_of_fixed<T: Pixel, const N: usize>(a: &Plane<T>, b: &Plane<T>) -> u64 {
     let mut sum = 0u64;
@@ -27,7 +28,7 @@ pub fn absolute_of_fixed<T: Pixel, const N: usize>(a: &Plane<T>, b: &Plane<T>) -
     sum
 }
 
-/// The same, where the library has two calls for it.
+/// Sums the absolute differences by the same loop. Over `v_frame_proved`, this case sums regions of planes.
 #[inline(never)]
 pub fn absolute_of_planes<T: Pixel, const N: usize>(a: &Plane<T>, b: &Plane<T>) -> u64 {
     absolute_of_fixed::<T, N>(a, b)
@@ -46,7 +47,7 @@ fn compare<T: Pixel>(a: &Plane<T>, b: &Plane<T>, size: usize, of_rows: fn(&[T], 
     sum
 }
 
-/// The buffer from a pixel on.
+/// Returns the buffer from a pixel on.
 #[inline(always)]
 fn from<T: Pixel>(plane: &Plane<T>, x: usize, y: usize) -> &[T] {
     &plane.data()[plane.geometry().data_origin() + plane.geometry().stride() * y + x..]
@@ -56,7 +57,7 @@ fn stride<T: Pixel>(plane: &Plane<T>) -> usize {
     plane.geometry().stride()
 }
 
-/// Sums how far the pixels of two blocks lie apart, of which each begins with a slice.
+/// Sums the absolute differences of two blocks. Each block begins where its slice begins.
 #[inline(always)]
 fn absolute_of_block<T: Pixel, const N: usize>(a: &[T], b: &[T], a_stride: usize, b_stride: usize) -> u32 {
     let mut sum = 0u32;
@@ -69,12 +70,12 @@ fn absolute_of_block<T: Pixel, const N: usize>(a: &[T], b: &[T], a_stride: usize
     sum
 }
 
-/// Sums how far the pixels of two rows lie apart.
+/// Sums the absolute differences of the pixels of two rows.
 fn absolute_of_rows<T: Pixel>(row: &[T], other: &[T]) -> u64 {
     u64::from(row.iter().zip(other).map(|(one, other)| u32::from(value(*one).abs_diff(value(*other)))).sum::<u32>())
 }
 
-/// Sums the squares of how far the pixels of two rows lie apart.
+/// Sums the squared differences of the pixels of two rows.
 fn squared_of_rows<T: Pixel>(row: &[T], other: &[T]) -> u64 {
     let square = |one: u16, other: u16| u64::from(one.abs_diff(other)).pow(2);
     row.iter().zip(other).map(|(one, other)| square(value(*one), value(*other))).sum()

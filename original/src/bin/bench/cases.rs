@@ -1,11 +1,11 @@
-//! The cases, and what each does.
+//! The cases, and the work of each case.
 
 use crate::desk::Desk;
 use crate::{blocks, operations, reads, writes};
 use v_frame::chroma::ChromaSubsampling;
 use v_frame::pixel::Pixel;
 
-/// What is measured.
+/// A case that is measured.
 #[derive(Clone, Copy)]
 pub enum Case {
     BuildMono,
@@ -86,7 +86,7 @@ pub const CASES: [(&str, Case); 39] = [
     ("copy_byte_data", Case::CopyToBytes),
 ];
 
-/// Does the work of a case once, and gives a number that depends on it.
+/// Does the work of a case once, and returns a number that depends on the work.
 pub fn work<T: Pixel>(case: Case, desk: &mut Desk<T>) -> u64 {
     let (luma, other) = (&desk.frame.y_plane, &desk.other.y_plane);
     match case {

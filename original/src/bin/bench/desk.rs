@@ -1,4 +1,4 @@
-//! What the cases of a type of pixels work on.
+//! The data of the cases, for one type of pixels.
 
 use crate::cases::Case;
 use crate::writes::build;
@@ -6,13 +6,13 @@ use v_frame::chroma::ChromaSubsampling;
 use v_frame::frame::Frame;
 use v_frame::pixel::Pixel;
 
-/// Bytes after each row of the source with a stride.
+/// The number of bytes after each row of a source with a stride.
 const TAIL: usize = 64;
 
-/// Places that are read or written in no order.
+/// The number of places that are read or written in scattered order.
 const PLACES: usize = 100_000;
 
-/// The numbers of the arguments.
+/// The numbers of the command line.
 #[derive(Clone, Copy)]
 pub struct Plan {
     pub width: u16,
@@ -30,7 +30,7 @@ pub struct Desk<T: Pixel> {
     pub frame: Frame<T>,
     /// A frame with the same luma.
     pub twin: Frame<T>,
-    /// A frame in whose luma every sixteenth pixel differs.
+    /// A frame with another value in every sixteenth pixel of luma.
     pub other: Frame<T>,
     pub source: Vec<T>,
     other_source: Vec<T>,
@@ -67,7 +67,7 @@ impl<T: Pixel> Desk<T> {
         }
     }
 
-    /// How many pixels a case handles.
+    /// Returns the number of pixels that a case handles.
     pub fn pixels_of(&self, case: Case) -> usize {
         match case {
             Case::PixelScattered | Case::PixelMutScattered => PLACES,
@@ -75,14 +75,14 @@ impl<T: Pixel> Desk<T> {
         }
     }
 
-    /// Gives the frames the luma that each case begins with.
+    /// Restores the luma with which each case begins.
     pub fn reset(&mut self) {
         self.frame.y_plane.copy_from_slice(&self.source).expect("as many pixels");
         self.twin.y_plane.copy_from_slice(&self.source).expect("as many pixels");
         self.other.y_plane.copy_from_slice(&self.other_source).expect("as many pixels");
     }
 
-    /// Changes a pixel in each frame and source, and which pixel is written, so that no two runs do the same.
+    /// Changes a pixel in each frame and source, and the pixel that is written, so that no two runs do the same work.
     pub fn change(&mut self, run: usize) {
         let value: T = pixel_of(run + usize::from(self.plan.seed));
         self.value = value;
@@ -101,7 +101,7 @@ impl<T: Pixel> Desk<T> {
         self.strided[place] = low;
     }
 
-    /// What stands in a few places after a run.
+    /// Returns the values at a few places after a run.
     pub fn sample(&self, run: usize) -> u64 {
         let Some(&(x, y)) = self.places.get(PLACES - run) else {
             return 0;
@@ -115,7 +115,7 @@ impl<T: Pixel> Desk<T> {
         u64::from(luma) + u64::from(chroma) + u64::from(byte)
     }
 
-    /// A sum of all that the cases write, borders too, in which each place counts otherwise.
+    /// Returns a checksum of everything that the cases write, borders included. It depends on the place of each value.
     pub fn checksum(&self) -> u64 {
         let planes = (0..3).filter_map(|index| self.frame.plane(index));
         let pixels = planes.flat_map(|plane| plane.data().iter().map(|pixel| u64::from((*pixel).into())));
@@ -124,7 +124,7 @@ impl<T: Pixel> Desk<T> {
     }
 }
 
-/// The pixel of a number: one below 251, so that no period fits a row.
+/// Returns the pixel for a number. It is below 251, so that no period fits a row.
 pub fn pixel_of<T: Pixel>(number: usize) -> T {
     T::from((number % 251) as u8)
 }
@@ -133,7 +133,7 @@ fn bytes(count: usize, first: usize) -> Vec<u8> {
     (first..first + count).map(|number| (number % 251) as u8).collect()
 }
 
-/// Places of the visible rectangle, in the order of a linear congruence.
+/// Returns places of the visible rectangle, in the order of a linear congruential generator.
 fn places(plan: Plan) -> Vec<(usize, usize)> {
     let mut state = u32::from(plan.seed);
     let mut next = || {

@@ -1,8 +1,8 @@
-//! Times of `v_frame` 0.7.0: `bench WIDTH HEIGHT PADDING SEED REPETITIONS`.
+//! Measures `v_frame` 0.7.0: `bench WIDTH HEIGHT PADDING SEED REPETITIONS`.
 //!
-//! The cases, their data and what is printed are those of `crates/bench`, and two more kinds of blocks. Operations that 0.7.0
-//! lacks, as `pad`, are loops over its rows, as a user writes them. Built over `v_frame_proved`, with the feature `proved`, they
-//! are its own.
+//! The cases, their data and the output are the same as in `crates/bench`, and there are two more kinds of blocks. An operation that
+//! 0.7.0 lacks, for example `pad`, is a loop over rows, as a user would write it. If the program is built over `v_frame_proved` with the
+//! feature `proved`, the operation is a call of that library.
 
 #[cfg_attr(feature = "proved", path = "proved/blocks.rs")]
 mod blocks;
@@ -19,7 +19,7 @@ use std::process::ExitCode;
 use std::time::Instant;
 use v_frame::pixel::Pixel;
 
-/// Runs of a case that aren't reported: until then the C library asks the system for memory at each build.
+/// The number of first runs that are not reported: in these, the C library requests memory from the system at each build.
 const UNTIMED: usize = 12;
 
 fn main() -> ExitCode {
@@ -41,7 +41,7 @@ fn usage() -> ExitCode {
     ExitCode::FAILURE
 }
 
-/// Measures all cases with pixels of this type.
+/// Measures all cases with pixels of type `T`.
 fn measure_type<T: Pixel>(plan: Plan, name: &str, depth: u8) {
     let mut desk = Desk::<T>::new(plan, depth);
     for (case_name, case) in CASES {

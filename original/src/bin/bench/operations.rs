@@ -4,24 +4,24 @@ use v_frame::frame::Frame;
 use v_frame::pixel::Pixel;
 use v_frame::plane::Plane;
 
-/// Sums how far the pixels of two planes lie apart.
+/// Returns the sum of absolute differences of two planes.
 #[inline(never)]
 pub fn absolute_differences<T: Pixel>(a: &Plane<T>, b: &Plane<T>) -> u64 {
     let mut sum = 0;
     for (row, other) in a.rows().zip(b.rows()) {
-        // no row of the arguments is so long that its sum leaves 32 bits, and this is the fastest of the plain forms
+        // The sum of a row fits 32 bits for all sizes in use. This is the fastest of the plain forms.
         sum += u64::from(row.iter().zip(other).map(|(one, other)| distance(*one, *other)).sum::<u32>());
     }
     sum
 }
 
-/// How far two pixels lie apart.
+/// Returns the absolute difference of two pixels.
 fn distance<T: Pixel>(one: T, other: T) -> u32 {
     let (one, other): (u16, u16) = (one.into(), other.into());
     u32::from(one.abs_diff(other))
 }
 
-/// Sums the squares of how far the pixels of two planes lie apart.
+/// Returns the sum of squared differences of two planes.
 #[inline(never)]
 pub fn squared_errors<T: Pixel>(a: &Plane<T>, b: &Plane<T>) -> u64 {
     let mut sum = 0;
@@ -37,7 +37,7 @@ fn squared_error<T: Pixel>(one: T, other: T) -> u64 {
     (difference * difference) as u64
 }
 
-/// Writes a plane in half the size into U: the means of blocks of two by two, rounded to the nearest value.
+/// Writes a plane at half its size into U: the means of blocks of two by two, rounded to the nearest value.
 #[inline(never)]
 pub fn halve<T: Pixel>(source: &Plane<T>, target: &mut Frame<T>) {
     let Some(half) = target.plane_mut(1) else {
@@ -56,7 +56,7 @@ pub fn halve<T: Pixel>(source: &Plane<T>, target: &mut Frame<T>) {
     }
 }
 
-/// The pixel of a value that fits it.
+/// Returns the pixel of a value that fits the pixel type.
 fn narrowed<T: Pixel>(value: u32) -> T {
     if size_of::<T>() == 1 { T::from(value as u8) } else { T::try_from(value as u16).unwrap_or_default() }
 }
@@ -69,7 +69,7 @@ pub fn fill<T: Pixel>(plane: &mut Plane<T>, value: T) {
     }
 }
 
-/// Makes each pixel of the border the visible pixel nearest to it.
+/// Sets each border pixel to the nearest visible pixel.
 #[inline(never)]
 pub fn pad<T: Pixel>(plane: &mut Plane<T>) {
     let geometry = plane.geometry();

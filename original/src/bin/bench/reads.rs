@@ -3,18 +3,18 @@
 use v_frame::pixel::Pixel;
 use v_frame::plane::Plane;
 
-/// One pixel more in a sum.
+/// Adds a pixel to a sum.
 fn added<T: Pixel>(sum: u64, pixel: T) -> u64 {
     sum.wrapping_add(u64::from(pixel.into()))
 }
 
-/// Compares two planes, borders too.
+/// Compares two planes, borders included.
 #[inline(never)]
 pub fn are_equal<T: Pixel>(a: &Plane<T>, b: &Plane<T>) -> bool {
     a == b
 }
 
-/// Sums the pixels of all rows, each by its number.
+/// Sums the pixels of all rows, and gets each row by its number.
 #[inline(never)]
 pub fn sum_by_row<T: Pixel>(plane: &Plane<T>) -> u64 {
     let mut sum = 0;
@@ -40,7 +40,7 @@ pub fn sum_by_rows<T: Pixel>(plane: &Plane<T>) -> u64 {
     sum
 }
 
-/// Sums all pixels, each by its column and row.
+/// Sums all pixels, and gets each pixel by its column and row.
 #[inline(never)]
 pub fn sum_by_pixel<T: Pixel>(plane: &Plane<T>) -> u64 {
     let mut sum = 0;
@@ -64,7 +64,7 @@ pub fn sum_by_pixels<T: Pixel>(plane: &Plane<T>) -> u64 {
     sum
 }
 
-/// The same from the last pixel to the first.
+/// Sums the pixels that an iterator gives from the last pixel to the first.
 #[inline(never)]
 pub fn sum_by_pixels_back<T: Pixel>(plane: &Plane<T>) -> u64 {
     let mut sum = 0;
@@ -74,7 +74,7 @@ pub fn sum_by_pixels_back<T: Pixel>(plane: &Plane<T>) -> u64 {
     sum
 }
 
-/// Sums the pixels of places.
+/// Sums the pixels at a list of places.
 #[inline(never)]
 pub fn sum_of_places<T: Pixel>(plane: &Plane<T>, places: &[(usize, usize)]) -> u64 {
     let mut sum = 0;
@@ -86,7 +86,7 @@ pub fn sum_of_places<T: Pixel>(plane: &Plane<T>, places: &[(usize, usize)]) -> u
     sum
 }
 
-/// How many pixels differ.
+/// Returns the number of pixels that differ.
 #[inline(never)]
 pub fn count_differing<T: Pixel>(a: &Plane<T>, b: &Plane<T>) -> u64 {
     let mut count = 0u64;

@@ -1,4 +1,4 @@
-//! Cases that write planes or bytes, and those that make planes and frames.
+//! Cases that write planes or bytes, and cases that make planes and frames.
 
 use crate::desk::{Desk, Plan};
 use v_frame::chroma::ChromaSubsampling;
@@ -6,7 +6,7 @@ use v_frame::frame::{Frame, FrameBuilder};
 use v_frame::pixel::Pixel;
 use v_frame::plane::Plane;
 
-/// Fills all rows, each by its number.
+/// Fills all rows, and gets each row by its number.
 #[inline(never)]
 pub fn fill_by_row_mut<T: Pixel>(plane: &mut Plane<T>, value: T) {
     for y in 0..plane.height() {
@@ -24,7 +24,7 @@ pub fn fill_by_rows_mut<T: Pixel>(plane: &mut Plane<T>, value: T) {
     }
 }
 
-/// Writes all pixels, each by its column and row.
+/// Writes all pixels, and gets each pixel by its column and row.
 #[inline(never)]
 pub fn fill_by_pixel_mut<T: Pixel>(plane: &mut Plane<T>, value: T) {
     for y in 0..plane.height() {
@@ -44,7 +44,7 @@ pub fn fill_by_pixels_mut<T: Pixel>(plane: &mut Plane<T>, value: T) {
     }
 }
 
-/// Writes the pixels of places.
+/// Writes the pixels at a list of places.
 #[inline(never)]
 pub fn fill_places<T: Pixel>(plane: &mut Plane<T>, places: &[(usize, usize)], value: T) {
     for &(x, y) in places {
@@ -60,7 +60,7 @@ pub fn copy_pixels<T: Pixel>(plane: &mut Plane<T>, source: &[T]) {
     plane.copy_from_slice(source).expect("as many pixels");
 }
 
-/// Copies bytes without tails.
+/// Copies bytes of packed rows.
 #[inline(never)]
 pub fn copy_packed<T: Pixel>(plane: &mut Plane<T>, source: &[u8]) {
     plane.copy_from_u8_slice(source).expect("as many bytes");
@@ -80,7 +80,7 @@ pub fn copy_to_bytes<T: Pixel>(plane: &Plane<T>, target: &mut [u8]) {
     }
 }
 
-/// Builds a frame of a plan.
+/// Builds a frame.
 #[inline(never)]
 pub fn build<T: Pixel>(plan: Plan, format: ChromaSubsampling, depth: u8) -> Frame<T> {
     let padding = usize::from(plan.padding);
@@ -114,7 +114,7 @@ fn cloned<C: Clone>(value: &C) -> C {
     value.clone()
 }
 
-/// Writes a pixel of a plane and reads another, so that the plane has to be made.
+/// Writes a pixel of a plane and reads another one, so that the compiler cannot remove the plane.
 #[inline(never)]
 fn used<T: Pixel>(plane: &mut Plane<T>, desk: &Desk<T>) -> u64 {
     let x = plane.width() / 2;

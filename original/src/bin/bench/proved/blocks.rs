@@ -1,22 +1,23 @@
-//! Blocks of two planes compared by regions and sums of the library.
+//! Compares blocks of two planes by regions and sums of the library.
 
 use v_frame::ops::rows;
 use v_frame::pixel::Pixel;
 use v_frame::plane::{Plane, RowsRef};
 
-/// Sums how far the blocks of `size` columns and rows of one plane lie from the first block of the same rows of another.
+/// Sums the absolute differences between the blocks of `size` by `size` pixels of one plane and the first block of the same rows of
+/// another plane.
 #[inline(never)]
 pub fn absolute<T: Pixel>(a: &Plane<T>, b: &Plane<T>, size: usize) -> u64 {
     compare(a, b, size, |block, other| rows::sum_of_absolute_differences(block, other))
 }
 
-/// The same of squares.
+/// Sums the squared differences between the same blocks.
 #[inline(never)]
 pub fn squared<T: Pixel>(a: &Plane<T>, b: &Plane<T>, size: usize) -> u64 {
     compare(a, b, size, |block, other| rows::sum_of_squared_errors(block, other))
 }
 
-/// The same, of a size that the compiler knows.
+/// Sums the absolute differences between the same blocks, with a size that the compiler knows.
 #[inline(never)]
 pub fn absolute_of_fixed<T: Pixel, const N: usize>(a: &Plane<T>, b: &Plane<T>) -> u64 {
     compare(a, b, N, |block, other| rows::sum_of_absolute_differences(block, other))
@@ -35,7 +36,7 @@ fn compare<T: Pixel>(a: &Plane<T>, b: &Plane<T>, size: usize, sum_of: impl Fn(&R
     sum
 }
 
-/// The same by regions of planes.
+/// Sums the absolute differences between the same blocks, by regions of planes.
 #[inline(never)]
 pub fn absolute_of_planes<T: Pixel, const N: usize>(a: &Plane<T>, b: &Plane<T>) -> u64 {
     let (a, b) = (a.as_plane_ref(), b.as_plane_ref());
