@@ -8,7 +8,7 @@ use crate::generated::v_frame_slices::layout::{Bordered, Rows};
 ///
 /// # Safety
 ///
-/// Each pointer is as the header says.
+/// Each pointer must meet the conditions of the header.
 #[allow(unsafe_code)]
 #[unsafe(no_mangle)]
 pub unsafe extern "C" fn v_frame_fill_u8(rows: *const Rows, buffer: *mut u8, buffer_length: usize, pixel: u8) -> u32 {
@@ -21,7 +21,7 @@ pub unsafe extern "C" fn v_frame_fill_u8(rows: *const Rows, buffer: *mut u8, buf
 ///
 /// # Safety
 ///
-/// Each pointer is as the header says.
+/// Each pointer must meet the conditions of the header.
 #[allow(unsafe_code)]
 #[unsafe(no_mangle)]
 pub unsafe extern "C" fn v_frame_fill_u16(rows: *const Rows, buffer: *mut u16, buffer_length: usize, pixel: u16) -> u32 {
@@ -34,7 +34,7 @@ pub unsafe extern "C" fn v_frame_fill_u16(rows: *const Rows, buffer: *mut u16, b
 ///
 /// # Safety
 ///
-/// Each pointer is as the header says.
+/// Each pointer must meet the conditions of the header.
 #[allow(unsafe_code)]
 #[unsafe(no_mangle)]
 pub unsafe extern "C" fn v_frame_copy_u8(
@@ -56,7 +56,7 @@ pub unsafe extern "C" fn v_frame_copy_u8(
 ///
 /// # Safety
 ///
-/// Each pointer is as the header says.
+/// Each pointer must meet the conditions of the header.
 #[allow(unsafe_code)]
 #[unsafe(no_mangle)]
 pub unsafe extern "C" fn v_frame_copy_u16(
@@ -79,7 +79,7 @@ pub unsafe extern "C" fn v_frame_copy_u16(
 ///
 /// # Safety
 ///
-/// Each pointer is as the header says.
+/// Each pointer must meet the conditions of the header.
 #[allow(unsafe_code)]
 #[unsafe(no_mangle)]
 pub unsafe extern "C" fn v_frame_downscale_u8(
@@ -102,7 +102,7 @@ pub unsafe extern "C" fn v_frame_downscale_u8(
 ///
 /// # Safety
 ///
-/// Each pointer is as the header says.
+/// Each pointer must meet the conditions of the header.
 #[allow(unsafe_code)]
 #[unsafe(no_mangle)]
 pub unsafe extern "C" fn v_frame_downscale_u16(
@@ -124,7 +124,7 @@ pub unsafe extern "C" fn v_frame_downscale_u16(
 ///
 /// # Safety
 ///
-/// Each pointer is as the header says.
+/// Each pointer must meet the conditions of the header.
 #[allow(unsafe_code)]
 #[unsafe(no_mangle)]
 pub unsafe extern "C" fn v_frame_pad_u8(layout: *const Bordered, buffer: *mut u8, buffer_length: usize) -> u32 {
@@ -137,7 +137,7 @@ pub unsafe extern "C" fn v_frame_pad_u8(layout: *const Bordered, buffer: *mut u8
 ///
 /// # Safety
 ///
-/// Each pointer is as the header says.
+/// Each pointer must meet the conditions of the header.
 #[allow(unsafe_code)]
 #[unsafe(no_mangle)]
 pub unsafe extern "C" fn v_frame_pad_u16(layout: *const Bordered, buffer: *mut u16, buffer_length: usize) -> u32 {
@@ -150,7 +150,7 @@ pub unsafe extern "C" fn v_frame_pad_u16(layout: *const Bordered, buffer: *mut u
 ///
 /// # Safety
 ///
-/// Each pointer is as the header says.
+/// Each pointer must meet the conditions of the header.
 #[allow(unsafe_code)]
 #[unsafe(no_mangle)]
 pub unsafe extern "C" fn v_frame_decode_u16(
@@ -172,7 +172,7 @@ pub unsafe extern "C" fn v_frame_decode_u16(
 ///
 /// # Safety
 ///
-/// Each pointer is as the header says.
+/// Each pointer must meet the conditions of the header.
 #[allow(unsafe_code)]
 #[unsafe(no_mangle)]
 pub unsafe extern "C" fn v_frame_encode_u16(

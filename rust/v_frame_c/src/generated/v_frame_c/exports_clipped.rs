@@ -9,7 +9,7 @@ use crate::generated::v_frame_slices::layout::Rows;
 ///
 /// # Safety
 ///
-/// Each pointer is as the header says.
+/// Each pointer must meet the conditions of the header.
 #[allow(unsafe_code)]
 #[unsafe(no_mangle)]
 pub unsafe extern "C" fn v_frame_copy_clipped_u8(
@@ -34,7 +34,7 @@ pub unsafe extern "C" fn v_frame_copy_clipped_u8(
 ///
 /// # Safety
 ///
-/// Each pointer is as the header says.
+/// Each pointer must meet the conditions of the header.
 #[allow(unsafe_code)]
 #[unsafe(no_mangle)]
 pub unsafe extern "C" fn v_frame_copy_clipped_u16(

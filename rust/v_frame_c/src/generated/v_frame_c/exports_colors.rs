@@ -9,7 +9,7 @@ use crate::generated::v_frame_slices::samples;
 ///
 /// # Safety
 ///
-/// Each pointer is as the header says.
+/// Each pointer must meet the conditions of the header.
 #[allow(unsafe_code)]
 #[unsafe(no_mangle)]
 pub unsafe extern "C" fn v_frame_yuv444_to_rgb_u8(
@@ -44,7 +44,7 @@ pub unsafe extern "C" fn v_frame_yuv444_to_rgb_u8(
 ///
 /// # Safety
 ///
-/// Each pointer is as the header says.
+/// Each pointer must meet the conditions of the header.
 #[allow(unsafe_code)]
 #[unsafe(no_mangle)]
 pub unsafe extern "C" fn v_frame_rgb_to_yuv444_u8(

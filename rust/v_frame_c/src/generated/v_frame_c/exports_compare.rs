@@ -8,7 +8,7 @@ use crate::generated::v_frame_slices::layout::{Place, Rows, Sum};
 ///
 /// # Safety
 ///
-/// Each pointer is as the header says.
+/// Each pointer must meet the conditions of the header.
 #[allow(unsafe_code)]
 #[unsafe(no_mangle)]
 pub unsafe extern "C" fn v_frame_squared_errors_u8(
@@ -32,7 +32,7 @@ pub unsafe extern "C" fn v_frame_squared_errors_u8(
 ///
 /// # Safety
 ///
-/// Each pointer is as the header says.
+/// Each pointer must meet the conditions of the header.
 #[allow(unsafe_code)]
 #[unsafe(no_mangle)]
 pub unsafe extern "C" fn v_frame_squared_errors_u16(
@@ -56,7 +56,7 @@ pub unsafe extern "C" fn v_frame_squared_errors_u16(
 ///
 /// # Safety
 ///
-/// Each pointer is as the header says.
+/// Each pointer must meet the conditions of the header.
 #[allow(unsafe_code)]
 #[unsafe(no_mangle)]
 pub unsafe extern "C" fn v_frame_absolute_differences_u8(
@@ -80,7 +80,7 @@ pub unsafe extern "C" fn v_frame_absolute_differences_u8(
 ///
 /// # Safety
 ///
-/// Each pointer is as the header says.
+/// Each pointer must meet the conditions of the header.
 #[allow(unsafe_code)]
 #[unsafe(no_mangle)]
 pub unsafe extern "C" fn v_frame_absolute_differences_u16(
@@ -104,7 +104,7 @@ pub unsafe extern "C" fn v_frame_absolute_differences_u16(
 ///
 /// # Safety
 ///
-/// Each pointer is as the header says.
+/// Each pointer must meet the conditions of the header.
 #[allow(unsafe_code)]
 #[unsafe(no_mangle)]
 pub unsafe extern "C" fn v_frame_first_difference_u8(
@@ -128,7 +128,7 @@ pub unsafe extern "C" fn v_frame_first_difference_u8(
 ///
 /// # Safety
 ///
-/// Each pointer is as the header says.
+/// Each pointer must meet the conditions of the header.
 #[allow(unsafe_code)]
 #[unsafe(no_mangle)]
 pub unsafe extern "C" fn v_frame_first_difference_u16(

@@ -8,7 +8,7 @@ use crate::generated::v_frame_slices::layout::Rows;
 ///
 /// # Safety
 ///
-/// Each pointer is as the header says.
+/// Each pointer must meet the conditions of the header.
 #[allow(unsafe_code)]
 #[unsafe(no_mangle)]
 pub unsafe extern "C" fn v_frame_blend_u8(
@@ -31,7 +31,7 @@ pub unsafe extern "C" fn v_frame_blend_u8(
 ///
 /// # Safety
 ///
-/// Each pointer is as the header says.
+/// Each pointer must meet the conditions of the header.
 #[allow(unsafe_code)]
 #[unsafe(no_mangle)]
 pub unsafe extern "C" fn v_frame_blend_u16(
@@ -54,7 +54,7 @@ pub unsafe extern "C" fn v_frame_blend_u16(
 ///
 /// # Safety
 ///
-/// Each pointer is as the header says.
+/// Each pointer must meet the conditions of the header.
 #[allow(unsafe_code)]
 #[unsafe(no_mangle)]
 pub unsafe extern "C" fn v_frame_blend_with_mask_u8(
@@ -81,7 +81,7 @@ pub unsafe extern "C" fn v_frame_blend_with_mask_u8(
 ///
 /// # Safety
 ///
-/// Each pointer is as the header says.
+/// Each pointer must meet the conditions of the header.
 #[allow(unsafe_code)]
 #[unsafe(no_mangle)]
 pub unsafe extern "C" fn v_frame_blend_with_mask_u16(
@@ -108,7 +108,7 @@ pub unsafe extern "C" fn v_frame_blend_with_mask_u16(
 ///
 /// # Safety
 ///
-/// Each pointer is as the header says.
+/// Each pointer must meet the conditions of the header.
 #[allow(unsafe_code)]
 #[unsafe(no_mangle)]
 pub unsafe extern "C" fn v_frame_difference_u8(
@@ -132,7 +132,7 @@ pub unsafe extern "C" fn v_frame_difference_u8(
 ///
 /// # Safety
 ///
-/// Each pointer is as the header says.
+/// Each pointer must meet the conditions of the header.
 #[allow(unsafe_code)]
 #[unsafe(no_mangle)]
 pub unsafe extern "C" fn v_frame_difference_u16(

@@ -8,7 +8,7 @@ use crate::generated::v_frame_slices::layout::Rows;
 ///
 /// # Safety
 ///
-/// Each pointer is as the header says.
+/// Each pointer must meet the conditions of the header.
 #[allow(unsafe_code)]
 #[unsafe(no_mangle)]
 pub unsafe extern "C" fn v_frame_convert_depth_u8_u16(
@@ -32,7 +32,7 @@ pub unsafe extern "C" fn v_frame_convert_depth_u8_u16(
 ///
 /// # Safety
 ///
-/// Each pointer is as the header says.
+/// Each pointer must meet the conditions of the header.
 #[allow(unsafe_code)]
 #[unsafe(no_mangle)]
 pub unsafe extern "C" fn v_frame_convert_depth_u16_u8(
@@ -56,7 +56,7 @@ pub unsafe extern "C" fn v_frame_convert_depth_u16_u8(
 ///
 /// # Safety
 ///
-/// Each pointer is as the header says.
+/// Each pointer must meet the conditions of the header.
 #[allow(unsafe_code)]
 #[unsafe(no_mangle)]
 pub unsafe extern "C" fn v_frame_convert_depth_u16_u16(
@@ -80,7 +80,7 @@ pub unsafe extern "C" fn v_frame_convert_depth_u16_u16(
 ///
 /// # Safety
 ///
-/// Each pointer is as the header says.
+/// Each pointer must meet the conditions of the header.
 #[allow(unsafe_code)]
 #[unsafe(no_mangle)]
 pub unsafe extern "C" fn v_frame_upscale_u8(
@@ -104,7 +104,7 @@ pub unsafe extern "C" fn v_frame_upscale_u8(
 ///
 /// # Safety
 ///
-/// Each pointer is as the header says.
+/// Each pointer must meet the conditions of the header.
 #[allow(unsafe_code)]
 #[unsafe(no_mangle)]
 pub unsafe extern "C" fn v_frame_upscale_u16(

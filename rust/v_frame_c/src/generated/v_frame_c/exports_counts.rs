@@ -8,7 +8,7 @@ use crate::generated::v_frame_slices::layout::Rows;
 ///
 /// # Safety
 ///
-/// Each pointer is as the header says.
+/// Each pointer must meet the conditions of the header.
 #[allow(unsafe_code)]
 #[unsafe(no_mangle)]
 pub unsafe extern "C" fn v_frame_count_between_u8(
@@ -29,7 +29,7 @@ pub unsafe extern "C" fn v_frame_count_between_u8(
 ///
 /// # Safety
 ///
-/// Each pointer is as the header says.
+/// Each pointer must meet the conditions of the header.
 #[allow(unsafe_code)]
 #[unsafe(no_mangle)]
 pub unsafe extern "C" fn v_frame_count_between_u16(
@@ -50,7 +50,7 @@ pub unsafe extern "C" fn v_frame_count_between_u16(
 ///
 /// # Safety
 ///
-/// Each pointer is as the header says.
+/// Each pointer must meet the conditions of the header.
 #[allow(unsafe_code)]
 #[unsafe(no_mangle)]
 pub unsafe extern "C" fn v_frame_histogram_u8(rows: *const Rows, buffer: *const u8, buffer_length: usize, counts: *mut u64, counts_length: usize) -> u32 {
@@ -64,7 +64,7 @@ pub unsafe extern "C" fn v_frame_histogram_u8(rows: *const Rows, buffer: *const 
 ///
 /// # Safety
 ///
-/// Each pointer is as the header says.
+/// Each pointer must meet the conditions of the header.
 #[allow(unsafe_code)]
 #[unsafe(no_mangle)]
 pub unsafe extern "C" fn v_frame_histogram_u16(rows: *const Rows, buffer: *const u16, buffer_length: usize, counts: *mut u64, counts_length: usize) -> u32 {

@@ -8,7 +8,7 @@ use crate::generated::v_frame_slices::measures::{self, Greatest};
 ///
 /// # Safety
 ///
-/// Each pointer is as the header says.
+/// Each pointer must meet the conditions of the header.
 #[allow(unsafe_code)]
 #[unsafe(no_mangle)]
 pub unsafe extern "C" fn v_frame_mean_squared_error_u8(
@@ -32,7 +32,7 @@ pub unsafe extern "C" fn v_frame_mean_squared_error_u8(
 ///
 /// # Safety
 ///
-/// Each pointer is as the header says.
+/// Each pointer must meet the conditions of the header.
 #[allow(unsafe_code)]
 #[unsafe(no_mangle)]
 pub unsafe extern "C" fn v_frame_mean_squared_error_u16(
@@ -56,7 +56,7 @@ pub unsafe extern "C" fn v_frame_mean_squared_error_u16(
 ///
 /// # Safety
 ///
-/// Each pointer is as the header says.
+/// Each pointer must meet the conditions of the header.
 #[allow(unsafe_code)]
 #[unsafe(no_mangle)]
 pub unsafe extern "C" fn v_frame_ssim_u8(
@@ -80,7 +80,7 @@ pub unsafe extern "C" fn v_frame_ssim_u8(
 ///
 /// # Safety
 ///
-/// Each pointer is as the header says.
+/// Each pointer must meet the conditions of the header.
 #[allow(unsafe_code)]
 #[unsafe(no_mangle)]
 pub unsafe extern "C" fn v_frame_ssim_u16(
@@ -105,7 +105,7 @@ pub unsafe extern "C" fn v_frame_ssim_u16(
 ///
 /// # Safety
 ///
-/// Each pointer is as the header says.
+/// Each pointer must meet the conditions of the header.
 #[allow(unsafe_code)]
 #[unsafe(no_mangle)]
 pub unsafe extern "C" fn v_frame_greatest_difference_u8(
@@ -129,7 +129,7 @@ pub unsafe extern "C" fn v_frame_greatest_difference_u8(
 ///
 /// # Safety
 ///
-/// Each pointer is as the header says.
+/// Each pointer must meet the conditions of the header.
 #[allow(unsafe_code)]
 #[unsafe(no_mangle)]
 pub unsafe extern "C" fn v_frame_greatest_difference_u16(
@@ -153,7 +153,7 @@ pub unsafe extern "C" fn v_frame_greatest_difference_u16(
 ///
 /// # Safety
 ///
-/// Each pointer is as the header says.
+/// Each pointer must meet the conditions of the header.
 #[allow(unsafe_code)]
 #[unsafe(no_mangle)]
 pub unsafe extern "C" fn v_frame_count_above_u8(
@@ -178,7 +178,7 @@ pub unsafe extern "C" fn v_frame_count_above_u8(
 ///
 /// # Safety
 ///
-/// Each pointer is as the header says.
+/// Each pointer must meet the conditions of the header.
 #[allow(unsafe_code)]
 #[unsafe(no_mangle)]
 pub unsafe extern "C" fn v_frame_count_above_u16(

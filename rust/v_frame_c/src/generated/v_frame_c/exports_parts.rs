@@ -7,7 +7,7 @@ use crate::generated::v_frame_slices::frame_parts::{self, FrameParts, FrameReque
 ///
 /// # Safety
 ///
-/// Each pointer is as the header says.
+/// Each pointer must meet the conditions of the header.
 #[allow(unsafe_code)]
 #[unsafe(no_mangle)]
 pub unsafe extern "C" fn v_frame_lay_out(request: *const FrameRequest, parts: *mut FrameParts) -> u32 {

@@ -8,7 +8,7 @@ use crate::generated::v_frame_slices::range;
 ///
 /// # Safety
 ///
-/// Each pointer is as the header says.
+/// Each pointer must meet the conditions of the header.
 #[allow(unsafe_code)]
 #[unsafe(no_mangle)]
 pub unsafe extern "C" fn v_frame_to_full_range_u8(
@@ -32,7 +32,7 @@ pub unsafe extern "C" fn v_frame_to_full_range_u8(
 ///
 /// # Safety
 ///
-/// Each pointer is as the header says.
+/// Each pointer must meet the conditions of the header.
 #[allow(unsafe_code)]
 #[unsafe(no_mangle)]
 pub unsafe extern "C" fn v_frame_to_full_range_u16(
@@ -56,7 +56,7 @@ pub unsafe extern "C" fn v_frame_to_full_range_u16(
 ///
 /// # Safety
 ///
-/// Each pointer is as the header says.
+/// Each pointer must meet the conditions of the header.
 #[allow(unsafe_code)]
 #[unsafe(no_mangle)]
 pub unsafe extern "C" fn v_frame_to_limited_range_u8(
@@ -80,7 +80,7 @@ pub unsafe extern "C" fn v_frame_to_limited_range_u8(
 ///
 /// # Safety
 ///
-/// Each pointer is as the header says.
+/// Each pointer must meet the conditions of the header.
 #[allow(unsafe_code)]
 #[unsafe(no_mangle)]
 pub unsafe extern "C" fn v_frame_to_limited_range_u16(

@@ -8,7 +8,7 @@ use crate::generated::v_frame_slices::semi_planar;
 ///
 /// # Safety
 ///
-/// Each pointer is as the header says.
+/// Each pointer must meet the conditions of the header.
 #[allow(unsafe_code)]
 #[unsafe(no_mangle)]
 pub unsafe extern "C" fn v_frame_interleave_u8(
@@ -35,7 +35,7 @@ pub unsafe extern "C" fn v_frame_interleave_u8(
 ///
 /// # Safety
 ///
-/// Each pointer is as the header says.
+/// Each pointer must meet the conditions of the header.
 #[allow(unsafe_code)]
 #[unsafe(no_mangle)]
 pub unsafe extern "C" fn v_frame_interleave_u16(
@@ -62,7 +62,7 @@ pub unsafe extern "C" fn v_frame_interleave_u16(
 ///
 /// # Safety
 ///
-/// Each pointer is as the header says.
+/// Each pointer must meet the conditions of the header.
 #[allow(unsafe_code)]
 #[unsafe(no_mangle)]
 pub unsafe extern "C" fn v_frame_deinterleave_u8(
@@ -89,7 +89,7 @@ pub unsafe extern "C" fn v_frame_deinterleave_u8(
 ///
 /// # Safety
 ///
-/// Each pointer is as the header says.
+/// Each pointer must meet the conditions of the header.
 #[allow(unsafe_code)]
 #[unsafe(no_mangle)]
 pub unsafe extern "C" fn v_frame_deinterleave_u16(

@@ -9,7 +9,7 @@ use crate::generated::v_frame_slices::{halves, resize};
 ///
 /// # Safety
 ///
-/// Each pointer is as the header says.
+/// Each pointer must meet the conditions of the header.
 #[allow(unsafe_code)]
 #[unsafe(no_mangle)]
 pub unsafe extern "C" fn v_frame_resize_area_u8(
@@ -32,7 +32,7 @@ pub unsafe extern "C" fn v_frame_resize_area_u8(
 ///
 /// # Safety
 ///
-/// Each pointer is as the header says.
+/// Each pointer must meet the conditions of the header.
 #[allow(unsafe_code)]
 #[unsafe(no_mangle)]
 pub unsafe extern "C" fn v_frame_resize_area_u16(
@@ -54,7 +54,7 @@ pub unsafe extern "C" fn v_frame_resize_area_u16(
 ///
 /// # Safety
 ///
-/// Each pointer is as the header says.
+/// Each pointer must meet the conditions of the header.
 #[allow(unsafe_code)]
 #[unsafe(no_mangle)]
 pub unsafe extern "C" fn v_frame_resize_nearest_u8(
@@ -76,7 +76,7 @@ pub unsafe extern "C" fn v_frame_resize_nearest_u8(
 ///
 /// # Safety
 ///
-/// Each pointer is as the header says.
+/// Each pointer must meet the conditions of the header.
 #[allow(unsafe_code)]
 #[unsafe(no_mangle)]
 pub unsafe extern "C" fn v_frame_resize_nearest_u16(
@@ -99,7 +99,7 @@ pub unsafe extern "C" fn v_frame_resize_nearest_u16(
 ///
 /// # Safety
 ///
-/// Each pointer is as the header says.
+/// Each pointer must meet the conditions of the header.
 #[allow(unsafe_code)]
 #[unsafe(no_mangle)]
 pub unsafe extern "C" fn v_frame_downscale_to_edge_u8(
@@ -122,7 +122,7 @@ pub unsafe extern "C" fn v_frame_downscale_to_edge_u8(
 ///
 /// # Safety
 ///
-/// Each pointer is as the header says.
+/// Each pointer must meet the conditions of the header.
 #[allow(unsafe_code)]
 #[unsafe(no_mangle)]
 pub unsafe extern "C" fn v_frame_downscale_to_edge_u16(
@@ -145,7 +145,7 @@ pub unsafe extern "C" fn v_frame_downscale_to_edge_u16(
 ///
 /// # Safety
 ///
-/// Each pointer is as the header says.
+/// Each pointer must meet the conditions of the header.
 #[allow(unsafe_code)]
 #[unsafe(no_mangle)]
 pub unsafe extern "C" fn v_frame_halve_columns_u8(
@@ -168,7 +168,7 @@ pub unsafe extern "C" fn v_frame_halve_columns_u8(
 ///
 /// # Safety
 ///
-/// Each pointer is as the header says.
+/// Each pointer must meet the conditions of the header.
 #[allow(unsafe_code)]
 #[unsafe(no_mangle)]
 pub unsafe extern "C" fn v_frame_halve_columns_u16(

@@ -8,7 +8,7 @@ use crate::generated::v_frame_slices::statistics::{self, PairStatistics, Statist
 ///
 /// # Safety
 ///
-/// Each pointer is as the header says.
+/// Each pointer must meet the conditions of the header.
 #[allow(unsafe_code)]
 #[unsafe(no_mangle)]
 pub unsafe extern "C" fn v_frame_statistics_u8(rows: *const Rows, buffer: *const u8, buffer_length: usize, found: *mut Statistics) -> u32 {
@@ -22,7 +22,7 @@ pub unsafe extern "C" fn v_frame_statistics_u8(rows: *const Rows, buffer: *const
 ///
 /// # Safety
 ///
-/// Each pointer is as the header says.
+/// Each pointer must meet the conditions of the header.
 #[allow(unsafe_code)]
 #[unsafe(no_mangle)]
 pub unsafe extern "C" fn v_frame_statistics_u16(rows: *const Rows, buffer: *const u16, buffer_length: usize, found: *mut Statistics) -> u32 {
@@ -36,7 +36,7 @@ pub unsafe extern "C" fn v_frame_statistics_u16(rows: *const Rows, buffer: *cons
 ///
 /// # Safety
 ///
-/// Each pointer is as the header says.
+/// Each pointer must meet the conditions of the header.
 #[allow(unsafe_code)]
 #[unsafe(no_mangle)]
 pub unsafe extern "C" fn v_frame_pair_statistics_u8(
@@ -60,7 +60,7 @@ pub unsafe extern "C" fn v_frame_pair_statistics_u8(
 ///
 /// # Safety
 ///
-/// Each pointer is as the header says.
+/// Each pointer must meet the conditions of the header.
 #[allow(unsafe_code)]
 #[unsafe(no_mangle)]
 pub unsafe extern "C" fn v_frame_pair_statistics_u16(

@@ -9,7 +9,7 @@ use crate::generated::v_frame_slices::top_bits;
 ///
 /// # Safety
 ///
-/// Each pointer is as the header says.
+/// Each pointer must meet the conditions of the header.
 #[allow(unsafe_code)]
 #[unsafe(no_mangle)]
 pub unsafe extern "C" fn v_frame_to_semi_planar_top_bits_u16(
@@ -61,7 +61,7 @@ pub unsafe extern "C" fn v_frame_to_semi_planar_top_bits_u16(
 ///
 /// # Safety
 ///
-/// Each pointer is as the header says.
+/// Each pointer must meet the conditions of the header.
 #[allow(unsafe_code)]
 #[unsafe(no_mangle)]
 pub unsafe extern "C" fn v_frame_from_semi_planar_top_bits_u16(

@@ -8,7 +8,7 @@ use crate::generated::v_frame_slices::whole;
 ///
 /// # Safety
 ///
-/// Each pointer is as the header says.
+/// Each pointer must meet the conditions of the header.
 #[allow(unsafe_code)]
 #[unsafe(no_mangle)]
 pub unsafe extern "C" fn v_frame_to_semi_planar_u8(
@@ -58,7 +58,7 @@ pub unsafe extern "C" fn v_frame_to_semi_planar_u8(
 ///
 /// # Safety
 ///
-/// Each pointer is as the header says.
+/// Each pointer must meet the conditions of the header.
 #[allow(unsafe_code)]
 #[unsafe(no_mangle)]
 pub unsafe extern "C" fn v_frame_to_semi_planar_u16(
@@ -108,7 +108,7 @@ pub unsafe extern "C" fn v_frame_to_semi_planar_u16(
 ///
 /// # Safety
 ///
-/// Each pointer is as the header says.
+/// Each pointer must meet the conditions of the header.
 #[allow(unsafe_code)]
 #[unsafe(no_mangle)]
 pub unsafe extern "C" fn v_frame_from_semi_planar_u8(
@@ -158,7 +158,7 @@ pub unsafe extern "C" fn v_frame_from_semi_planar_u8(
 ///
 /// # Safety
 ///
-/// Each pointer is as the header says.
+/// Each pointer must meet the conditions of the header.
 #[allow(unsafe_code)]
 #[unsafe(no_mangle)]
 pub unsafe extern "C" fn v_frame_from_semi_planar_u16(

@@ -10,7 +10,7 @@ use crate::generated::v_frame_png_c::status::{NUMBER, OUT_OF_MEMORY, ROWS, SIZE}
 ///
 /// # Safety
 ///
-/// Each pointer is as the header says.
+/// Each pointer must meet the conditions of the header.
 #[allow(unsafe_code)]
 #[unsafe(no_mangle)]
 pub unsafe extern "C" fn v_frame_png_write_u8(
@@ -46,7 +46,7 @@ pub unsafe extern "C" fn v_frame_png_write_u8(
 ///
 /// # Safety
 ///
-/// Each pointer is as the header says.
+/// Each pointer must meet the conditions of the header.
 #[allow(unsafe_code)]
 #[unsafe(no_mangle)]
 pub unsafe extern "C" fn v_frame_png_write_u16(

@@ -13,7 +13,7 @@ use v_frame_proved::y4m::{header_line_with_newline, is_frame_line, is_lax_frame_
 ///
 /// # Safety
 ///
-/// Each pointer is as the header says.
+/// Each pointer must meet the conditions of the header.
 #[allow(unsafe_code)]
 #[unsafe(no_mangle)]
 pub unsafe extern "C" fn v_frame_y4m_parse_header(
@@ -41,7 +41,7 @@ pub unsafe extern "C" fn v_frame_y4m_parse_header(
 ///
 /// # Safety
 ///
-/// Each pointer is as the header says.
+/// Each pointer must meet the conditions of the header.
 #[allow(unsafe_code)]
 #[unsafe(no_mangle)]
 pub unsafe extern "C" fn v_frame_y4m_first_line(bytes: *const u8, bytes_length: usize, length: *mut usize) -> u32 {
@@ -61,7 +61,7 @@ pub unsafe extern "C" fn v_frame_y4m_first_line(bytes: *const u8, bytes_length: 
 ///
 /// # Safety
 ///
-/// Each pointer is as the header says.
+/// Each pointer must meet the conditions of the header.
 #[allow(unsafe_code)]
 #[unsafe(no_mangle)]
 pub unsafe extern "C" fn v_frame_y4m_frame_line(bytes: *const u8, bytes_length: usize, length: *mut usize) -> u32 {
@@ -86,7 +86,7 @@ pub unsafe extern "C" fn v_frame_y4m_frame_line(bytes: *const u8, bytes_length: 
 ///
 /// # Safety
 ///
-/// Each pointer is as the header says.
+/// Each pointer must meet the conditions of the header.
 #[allow(unsafe_code)]
 #[unsafe(no_mangle)]
 pub unsafe extern "C" fn v_frame_y4m_write_header(
@@ -117,7 +117,7 @@ pub unsafe extern "C" fn v_frame_y4m_write_header(
 ///
 /// # Safety
 ///
-/// Each pointer is as the header says.
+/// Each pointer must meet the conditions of the header.
 #[allow(unsafe_code)]
 #[unsafe(no_mangle)]
 pub unsafe extern "C" fn v_frame_y4m_frame_bytes(header: *const Header, count: *mut usize) -> u32 {

@@ -27,9 +27,10 @@ pub use writing_iterators::{
     lent_rows_hold_what_is_written,
 };
 
-/// Two frames that show the same give the same answers to every list of calls, and show the same afterwards.
+/// If two frames show the same tables, every list of calls returns equal results for both, and both show the same tables
+/// afterwards.
 ///
-/// The error is an allocation failure. Each frame keeps its own border, in either case.
+/// The error means that memory could not be allocated. Each frame keeps its own border, even after an error.
 #[inline]
 pub fn same_tables_same_answers<T: Pixel>(
     a: &mut Frame<T>,
@@ -41,7 +42,7 @@ pub fn same_tables_same_answers<T: Pixel>(
     Ok((first, second))
 }
 
-/// Returns a replay whose answers so far are dropped where memory is refused.
+/// Replays `calls`. If memory cannot be allocated, the results so far are dropped.
 fn replayed<T: Pixel>(
     frame: &mut Frame<T>,
     calls: &[VisibleCall<T>],
@@ -49,7 +50,7 @@ fn replayed<T: Pixel>(
     replay(frame, calls).map_err(|_| AllocError)
 }
 
-/// Returns a frame that can be built is zero everywhere, and its chroma planes have the size of the format or are absent.
+/// A frame that can be built is zero everywhere. Its chroma planes have the size that the format specifies, or are absent.
 #[inline]
 pub fn built_frame_is_zero<T: Pixel>(
     builder: FrameBuilder,
@@ -57,8 +58,8 @@ pub fn built_frame_is_zero<T: Pixel>(
     builder.build()
 }
 
-/// Any calls of `next` and `next_back` give each row of a plane once, from its end. The error is an allocation failure: rows
-/// are copied.
+/// Any series of `next` and `next_back` calls on `Plane::rows` yields each row of the plane once. The rows are copied, and the
+/// error means that memory could not be allocated.
 #[inline]
 pub fn rows_are_drawn_once<T: Pixel>(
     plane: &Plane<T>,
@@ -67,7 +68,8 @@ pub fn rows_are_drawn_once<T: Pixel>(
     draw_items(&mut plane.rows(), sides)
 }
 
-/// Any calls of `next` and `next_back` give each pixel of a plane once, from its end. The error is an allocation failure.
+/// Any series of `next` and `next_back` calls on `Plane::pixels` yields each pixel of the plane once. The error means that
+/// memory could not be allocated.
 #[inline]
 pub fn pixels_are_drawn_once<T: Pixel>(
     plane: &Plane<T>,
@@ -76,7 +78,8 @@ pub fn pixels_are_drawn_once<T: Pixel>(
     draw_items(&mut plane.pixels(), sides)
 }
 
-/// Any calls of `next` and `next_back` give each byte of a plane once, from its end. The error is an allocation failure.
+/// Any series of `next` and `next_back` calls on `Plane::byte_data` yields each byte of the plane once. The error means that
+/// memory could not be allocated.
 #[inline]
 pub fn bytes_are_drawn_once<T: Pixel>(
     plane: &Plane<T>,

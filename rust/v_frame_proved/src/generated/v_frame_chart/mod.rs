@@ -18,7 +18,7 @@
 //! write_svg(&mut file, &chart)?;
 //! assert_eq!(file, text.into_bytes());
 //!
-//! // Long series are drawn by columns: here two, of two values each.
+//! // A long series is drawn in columns. Here there are two, with two values each.
 //! let columns = summaries(&[1.0, 3.0, f64::NAN, f64::INFINITY], 2)?;
 //! assert_eq!(columns, [Some(Summary { least: 1.0, mean: 2.0, most: 3.0 }), None]);
 //! # Ok::<(), Box<dyn std::error::Error>>(())

@@ -26,6 +26,14 @@ pub enum Component {
 
 impl Component {
     /// Returns the index of its plane in a frame: 0 for Y, 1 for U and 2 for V.
+    ///
+    /// # Examples
+    ///
+    /// ```
+    /// use v_frame_proved::formats::Component;
+    ///
+    /// assert_eq!(Component::U.index(), 1);
+    /// ```
     #[inline]
     #[must_use]
     pub fn index(self) -> usize {
@@ -37,6 +45,14 @@ impl Component {
     }
 
     /// Returns its letter, a capital one.
+    ///
+    /// # Examples
+    ///
+    /// ```
+    /// use v_frame_proved::formats::Component;
+    ///
+    /// assert_eq!(Component::U.letter(), "U");
+    /// ```
     #[inline]
     #[must_use]
     pub fn letter(self) -> &'static str {

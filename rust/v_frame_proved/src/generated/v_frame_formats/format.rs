@@ -19,7 +19,7 @@ use crate::generated::v_frame_y4m::{Color, Depth};
 /// assert_eq!(VideoFormat::named("nv12"), Some(nv12));
 /// assert_eq!(nv12.color(), Color::Yuv420);
 ///
-/// // ffmpeg's name of a pixel format, or the word of a YUV4MPEG2 header.
+/// // The name of ffmpeg's pixel format, or the text in a YUV4MPEG2 header.
 /// let deep = VideoFormat::named("yuv422p10le").unwrap();
 /// assert_eq!(VideoFormat::named("422p10"), Some(deep));
 /// assert_eq!((deep.short_name(), deep.ffmpeg_name()), ("422p10", "yuv422p10le"));
@@ -75,6 +75,16 @@ const FORMATS: [VideoFormat; 35] = [
 
 impl VideoFormat {
     /// Returns the chroma subsampling.
+    ///
+    /// # Examples
+    ///
+    /// ```
+    /// use v_frame_proved::chroma::ChromaSubsampling;
+    /// use v_frame_proved::formats::VideoFormat;
+    ///
+    /// let nv12 = VideoFormat::named("nv12").unwrap();
+    /// assert_eq!(nv12.subsampling(), ChromaSubsampling::Yuv420);
+    /// ```
     #[inline]
     #[must_use]
     pub fn subsampling(self) -> ChromaSubsampling {
@@ -85,6 +95,14 @@ impl VideoFormat {
     }
 
     /// Returns the bits of a sample.
+    ///
+    /// # Examples
+    ///
+    /// ```
+    /// use v_frame_proved::formats::VideoFormat;
+    ///
+    /// assert_eq!(VideoFormat::named("p010le").map(VideoFormat::bit_depth), Some(10));
+    /// ```
     #[inline]
     #[must_use]
     pub fn bit_depth(self) -> u8 {
@@ -95,6 +113,15 @@ impl VideoFormat {
     }
 
     /// Returns the color that the header of a stream has for frames of this format.
+    ///
+    /// # Examples
+    ///
+    /// ```
+    /// use v_frame_proved::formats::VideoFormat;
+    /// use v_frame_proved::y4m::Color;
+    ///
+    /// assert_eq!(VideoFormat::named("nv12").unwrap().color(), Color::Yuv420);
+    /// ```
     #[inline]
     #[must_use]
     pub fn color(self) -> Color {
@@ -105,6 +132,14 @@ impl VideoFormat {
     }
 
     /// Returns the short name: what YUV4MPEG2 has for planes one after the other, and `nv12`, `p010` and the like.
+    ///
+    /// # Examples
+    ///
+    /// ```
+    /// use v_frame_proved::formats::VideoFormat;
+    ///
+    /// assert_eq!(VideoFormat::named("yuv422p10le").unwrap().short_name(), "422p10");
+    /// ```
     #[inline]
     #[must_use]
     pub fn short_name(self) -> &'static str {
@@ -115,6 +150,15 @@ impl VideoFormat {
     }
 
     /// Returns the name of ffmpeg's pixel format, or the short name where ffmpeg has none for this format alone.
+    ///
+    /// # Examples
+    ///
+    /// ```
+    /// use v_frame_proved::formats::VideoFormat;
+    ///
+    /// let format = VideoFormat::named("422p10").unwrap();
+    /// assert_eq!(format.ffmpeg_name(), "yuv422p10le");
+    /// ```
     #[inline]
     #[must_use]
     pub fn ffmpeg_name(self) -> &'static str {
@@ -125,6 +169,17 @@ impl VideoFormat {
     }
 
     /// Returns the format of a name. `None` where no format has it.
+    ///
+    /// # Examples
+    ///
+    /// ```
+    /// use v_frame_proved::formats::VideoFormat;
+    ///
+    /// let format = VideoFormat::named("yuv420p10le").unwrap();
+    /// assert_eq!(format.bit_depth(), 10);
+    /// assert_eq!(VideoFormat::named("420p10"), Some(format)); // the name in a YUV4MPEG2 header
+    /// assert!(VideoFormat::named("rgb24").is_none());
+    /// ```
     #[inline]
     #[must_use]
     pub fn named(name: &str) -> Option<Self> {

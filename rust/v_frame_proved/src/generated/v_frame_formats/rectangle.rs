@@ -26,6 +26,16 @@ pub struct Rectangle {
 
 impl Rectangle {
     /// Returns whether it lies in a picture of so many columns and rows.
+    ///
+    /// # Examples
+    ///
+    /// ```
+    /// use v_frame_proved::formats::Rectangle;
+    ///
+    /// let part = Rectangle { x: 640, y: 360, width: 640, height: 360 };
+    /// assert!(part.lies_in(1280, 720));
+    /// assert!(!part.lies_in(1279, 720));
+    /// ```
     #[inline]
     #[must_use]
     pub fn lies_in(&self, width: usize, height: usize) -> bool {

@@ -8,7 +8,7 @@
 /// ```
 /// use v_frame_proved::formats::{Component, PixelDifference, PlaneSums};
 ///
-/// // The squared errors of two frames in 4:2:0, plane by plane, and where they differ first.
+/// // The squared errors of two 4:2:0 frames, plane by plane, and their first difference.
 /// let errors = PlaneSums { y: 4, u: Some(1), v: Some(0) };
 /// assert_eq!(errors.plus(&errors).total(), 10);
 /// assert_eq!(errors.times(3).u, Some(3));
@@ -27,6 +27,15 @@ pub struct PlaneSums {
 
 impl PlaneSums {
     /// Returns the sums, plane by plane: of chroma where both have it. Each saturates at `u128::MAX`.
+    ///
+    /// # Examples
+    ///
+    /// ```
+    /// use v_frame_proved::formats::PlaneSums;
+    ///
+    /// let sums = PlaneSums { y: 40, u: Some(1), v: Some(2) };
+    /// assert_eq!(sums.plus(&sums).total(), 86);
+    /// ```
     #[inline]
     #[must_use]
     pub fn plus(&self, more: &PlaneSums) -> Self {
@@ -50,6 +59,15 @@ impl PlaneSums {
     }
 
     /// Returns the sum over all planes. It saturates at `u128::MAX`.
+    ///
+    /// # Examples
+    ///
+    /// ```
+    /// use v_frame_proved::formats::PlaneSums;
+    ///
+    /// assert_eq!(PlaneSums { y: 40, u: Some(1), v: Some(2) }.total(), 43);
+    /// assert_eq!(PlaneSums { y: 40, u: None, v: None }.total(), 40);
+    /// ```
     #[inline]
     #[must_use]
     pub fn total(&self) -> u128 {

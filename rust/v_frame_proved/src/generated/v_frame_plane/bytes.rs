@@ -7,19 +7,21 @@ use core::fmt;
 use core::iter::FusedIterator;
 use crate::generated::v_frame_raster::pixel::Pixel;
 
-/// A double-ended iterator over the bytes of the visible pixels of a plane, pixel after pixel, each with its low byte first.
+/// A double-ended iterator over the bytes of the visible pixels of a plane, pixel by pixel. Each pixel is encoded in
+/// little-endian order.
 ///
-/// From the back the high byte of the last pixel comes first. A pixel that was begun from one end may be finished
-/// from the other. It takes the place of the iterator of `Plane::byte_data` of `v_frame` 0.7.0.
+/// From the back, the high byte of the last pixel comes first. If one end has yielded the first of two bytes of a
+/// pixel, the other end may yield the second. The iterator replaces the unnamed one that `Plane::byte_data` of
+/// `v_frame` 0.7.0 returns.
 pub struct ByteData<'a, T: Pixel> {
-    // The pixel whose low byte was given, the pixels that were not begun, and the one whose high byte was given.
+    // The pixel whose low byte was yielded, the pixels that were not begun, and the pixel whose high byte was yielded.
     front: Option<T>,
     pixels: Pixels<'a, T>,
     back: Option<T>,
 }
 
 impl<'a, T: Pixel> ByteData<'a, T> {
-    /// Returns the bytes of the visible pixels of a plane.
+    /// Returns an iterator over the bytes of the visible pixels of `plane`.
     #[inline]
     pub(crate) fn new(plane: &PlaneRef<'a, T>) -> Self {
         ByteData {
@@ -39,7 +41,7 @@ impl<'a, T: Pixel> ByteData<'a, T> {
     }
 }
 
-/// Returns the low byte of a pixel, which is kept in `front` where it has another byte.
+/// Returns the low byte of a pixel, and stores the pixel in `front` if it has a second byte.
 #[inline]
 fn begin_front<T: Pixel>(pixel: T, front: &mut Option<T>) -> u8 {
     if T::PIXEL_BYTES == 2 {
@@ -48,7 +50,7 @@ fn begin_front<T: Pixel>(pixel: T, front: &mut Option<T>) -> u8 {
     pixel.pixel_le_byte(0)
 }
 
-/// Returns the last byte of a pixel, which is kept in `back` where it has another byte.
+/// Returns the last byte of a pixel, and stores the pixel in `back` if it has a second byte.
 #[inline]
 fn begin_back<T: Pixel>(pixel: T, back: &mut Option<T>) -> u8 {
     if T::PIXEL_BYTES == 2 {
@@ -109,7 +111,7 @@ impl<'a, T: Pixel> Clone for ByteData<'a, T> {
     }
 }
 
-/// The bytes that are left, as a list.
+/// Prints the remaining bytes as a list.
 impl<'a, T: Pixel> fmt::Debug for ByteData<'a, T> {
     fn fmt(&self, f: &mut fmt::Formatter<'_>) -> fmt::Result {
         f.debug_list().entries(self.duplicate()).finish()

@@ -2,14 +2,15 @@
 use crate::generated::v_frame_plane::plane::{CopyError, Plane};
 use crate::generated::v_frame_raster::pixel::Pixel;
 
-/// Planes are equal exactly where their geometries and their whole buffers are, the borders too.
+/// Two planes are equal if and only if their geometries and their whole buffers are equal, including the borders.
 #[inline]
 #[must_use]
 pub fn planes_are_equal<T: Pixel>(p: &Plane<T>, q: &Plane<T>) -> bool {
     p == q
 }
 
-/// Into equal planes of one-byte pixels the packed copies of pixels and of bytes do the same, and they leave equal planes.
+/// The copy of packed pixels and the copy of packed bytes do the same to two equal planes of one-byte pixels, and leave equal
+/// planes.
 #[inline]
 pub fn packed_copies_agree(
     left: &mut Plane<u8>,
@@ -18,7 +19,7 @@ pub fn packed_copies_agree(
 ) -> (Result<(), CopyError>, Result<(), CopyError>) {
     let of_pixels = left.copy_from_slice(src);
     let of_bytes = right.copy_from_u8_slice(src);
-    // Buffers of one geometry, which are whole, are equal where tables and borders are.
+    // Whole buffers with equal geometries are equal if their tables and their borders are equal.
     let (_left, _right) = (left.data(), right.data());
     (of_pixels, of_bytes)
 }

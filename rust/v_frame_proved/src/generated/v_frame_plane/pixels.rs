@@ -6,18 +6,18 @@ use crate::generated::v_frame_plane::rows::Rows;
 use core::iter::FusedIterator;
 use core::{fmt, mem};
 
-/// A double-ended iterator over the visible pixels of a plane, row after row from the top.
+/// A double-ended iterator over the visible pixels of a plane, row by row from the top.
 ///
-/// It takes the place of the iterator of `Plane::pixels` of `v_frame` 0.7.0.
+/// The iterator replaces the unnamed one that `Plane::pixels` of `v_frame` 0.7.0 returns.
 pub struct Pixels<'a, T> {
-    // The row that was begun from the front, the rows that were not begun, and the one that was begun from the back.
+    // The row that was begun from the front, the rows that were not begun, and the row that was begun from the back.
     front: &'a [T],
     rows: Rows<'a, T>,
     back: &'a [T],
 }
 
 impl<'a, T> Pixels<'a, T> {
-    /// Returns the visible pixels of a plane.
+    /// Returns an iterator over the visible pixels of `plane`.
     #[inline]
     pub(crate) fn new(plane: &PlaneRef<'a, T>) -> Self {
         Pixels {
@@ -96,7 +96,7 @@ impl<'a, T> Clone for Pixels<'a, T> {
     }
 }
 
-/// The pixels that are left, as a list.
+/// Prints the remaining pixels as a list.
 impl<'a, T: Copy + fmt::Debug> fmt::Debug for Pixels<'a, T> {
     fn fmt(&self, f: &mut fmt::Formatter<'_>) -> fmt::Result {
         f.debug_list().entries(self.duplicate()).finish()

@@ -5,10 +5,10 @@ use crate::generated::v_frame_plane::rows_mut::RowsMut;
 use core::iter::FusedIterator;
 use core::mem;
 
-/// A double-ended iterator over the visible pixels of a plane for writing, row after row from the top.
+/// A double-ended iterator that lends the visible pixels of a plane for writing, row by row from the top.
 ///
-/// A pixel may be held while the iterator gives others, and outlives the iterator. It takes the place of the
-/// iterator of `Plane::pixels_mut` of `v_frame` 0.7.0.
+/// A caller may keep a pixel while the iterator yields further pixels, and after the iterator is dropped. The
+/// iterator replaces the unnamed one that `Plane::pixels_mut` of `v_frame` 0.7.0 returns.
 ///
 /// # Examples
 ///
@@ -26,14 +26,14 @@ use core::mem;
 /// ```
 #[derive(Debug)]
 pub struct PixelsMut<'a, T> {
-    // The row that was begun from the front, the rows that were not begun, and the one that was begun from the back.
+    // The row that was begun from the front, the rows that were not begun, and the row that was begun from the back.
     front: &'a mut [T],
     rows: RowsMut<'a, T>,
     back: &'a mut [T],
 }
 
 impl<'a, T> PixelsMut<'a, T> {
-    /// Returns the pixels of these rows.
+    /// Returns an iterator over the pixels of `rows`.
     #[inline]
     pub(crate) fn new(rows: RowsMut<'a, T>) -> Self {
         PixelsMut {
@@ -59,7 +59,7 @@ impl<'a, T> PixelsMut<'a, T> {
         pixel
     }
 
-    /// Returns the next pixel, as [`Iterator::next`] gives it.
+    /// Returns the next pixel, as [`Iterator::next`] does.
     #[inline]
     pub fn next(&mut self) -> Option<&'a mut T> {
         if self.front.len() == 0 {
@@ -70,13 +70,14 @@ impl<'a, T> PixelsMut<'a, T> {
             if self.front.len() == 0 {
                 return None;
             }
-            // Also below: were it there alone, each pixel of a row that was begun would take a jump more.
+            // This call is repeated below: a single call after this block would cost a jump for each pixel of a row that was
+            // begun.
             return Some(self.next_of_front());
         }
         Some(self.next_of_front())
     }
 
-    /// Returns the last pixel, as [`DoubleEndedIterator::next_back`] gives it.
+    /// Returns the last pixel, as [`DoubleEndedIterator::next_back`] does.
     #[inline]
     pub fn next_back(&mut self) -> Option<&'a mut T> {
         if self.back.len() == 0 {
@@ -87,7 +88,8 @@ impl<'a, T> PixelsMut<'a, T> {
             if self.back.len() == 0 {
                 return None;
             }
-            // Also below: were it there alone, each pixel of a row that was begun would take a jump more.
+            // This call is repeated below: a single call after this block would cost a jump for each pixel of a row that was
+            // begun.
             return Some(self.next_of_back());
         }
         Some(self.next_of_back())
@@ -125,14 +127,15 @@ impl<'a, T> ExactSizeIterator for PixelsMut<'a, T> {
 
 impl<'a, T> FusedIterator for PixelsMut<'a, T> {}
 
-/// Returns a slice that isn't empty, cut into its first entry and the rest.
+/// Splits a slice that is not empty into its first entry and the remaining entries.
 #[inline]
 fn cut_first<T>(slice: &mut [T]) -> (&mut T, &mut [T]) {
     let (first, rest) = slice.split_at_mut(1);
     (&mut first[0], rest)
 }
 
-/// Returns a slice that isn't empty, cut into its last entry and the rest.
+/// Splits a slice that is not empty into its last entry and the remaining entries. The last entry is the first item of the
+/// result.
 #[inline]
 fn cut_last<T>(slice: &mut [T]) -> (&mut T, &mut [T]) {
     let len = slice.len();

@@ -5,9 +5,9 @@ use crate::generated::v_frame_plane::plane_ref::PlaneRef;
 use core::fmt;
 use core::iter::FusedIterator;
 
-/// A double-ended iterator over the visible rows of a plane, from the top.
+/// A double-ended iterator over the visible rows of a plane, from top to bottom. Each row is a slice of pixels.
 ///
-/// It takes the place of the iterator of `Plane::rows` of `v_frame` 0.7.0.
+/// The iterator replaces the unnamed one that `Plane::rows` of `v_frame` 0.7.0 returns.
 ///
 /// # Examples
 ///
@@ -30,13 +30,13 @@ pub struct Rows<'a, T> {
     rest: &'a [T],
     start: usize,
     width: usize,
-    // The entries between two rows.
+    // The number of entries between the end of a row and the start of the next.
     gap: usize,
     count: usize,
 }
 
 impl<'a, T> Rows<'a, T> {
-    /// Returns the visible rows of a plane.
+    /// Returns an iterator over the visible rows of `plane`.
     pub(crate) fn new(plane: &PlaneRef<'a, T>) -> Self {
         let geometry = plane.geometry();
         let width = geometry.width();
@@ -49,7 +49,7 @@ impl<'a, T> Rows<'a, T> {
         }
     }
 
-    /// Returns how many pixels the rows that are left have.
+    /// Returns the number of pixels in the remaining rows.
     #[inline]
     pub(crate) fn pixel_count(&self) -> usize {
         self.count * self.width
@@ -121,7 +121,7 @@ impl<'a, T> Clone for Rows<'a, T> {
     }
 }
 
-/// The rows that are left, as a list.
+/// Prints the remaining rows as a list.
 impl<'a, T: fmt::Debug> fmt::Debug for Rows<'a, T> {
     fn fmt(&self, f: &mut fmt::Formatter<'_>) -> fmt::Result {
         f.debug_list().entries(self.duplicate()).finish()

@@ -5,10 +5,11 @@ use core::iter::FusedIterator;
 use core::mem;
 use crate::generated::v_frame_raster::geometry::PlaneGeometry;
 
-/// A double-ended iterator over the visible rows of a plane for writing, from the top.
+/// A double-ended iterator that lends the visible rows of a plane for writing, from top to bottom. Each row is a slice of
+/// pixels.
 ///
-/// A row may be held while the iterator gives others, and outlives the iterator. It takes the place of the
-/// iterator of `Plane::rows_mut` of `v_frame` 0.7.0.
+/// A caller may keep a row while the iterator yields further rows, and after the iterator is dropped. The
+/// iterator replaces the unnamed one that `Plane::rows_mut` of `v_frame` 0.7.0 returns.
 ///
 /// # Examples
 ///
@@ -30,13 +31,13 @@ pub struct RowsMut<'a, T> {
     rest: &'a mut [T],
     start: usize,
     width: usize,
-    // The entries between two rows.
+    // The number of entries between the end of a row and the start of the next.
     gap: usize,
     count: usize,
 }
 
 impl<'a, T> RowsMut<'a, T> {
-    /// Returns the visible rows of a whole buffer.
+    /// Returns an iterator over the visible rows of a whole buffer.
     pub(crate) fn new(geometry: PlaneGeometry, buffer: &'a mut [T]) -> Self {
         let width = geometry.width();
         RowsMut {
@@ -48,13 +49,13 @@ impl<'a, T> RowsMut<'a, T> {
         }
     }
 
-    /// Returns how many pixels the rows that are left have.
+    /// Returns the number of pixels in the remaining rows.
     #[inline]
     pub(crate) fn pixel_count(&self) -> usize {
         self.count * self.width
     }
 
-    /// Returns the next row, as [`Iterator::next`] gives it.
+    /// Returns the next row, as [`Iterator::next`] does.
     #[inline]
     pub fn next(&mut self) -> Option<&'a mut [T]> {
         let RowsMut {
@@ -82,7 +83,7 @@ impl<'a, T> RowsMut<'a, T> {
         Some(row.0)
     }
 
-    /// Returns the last row, as [`DoubleEndedIterator::next_back`] gives it.
+    /// Returns the last row, as [`DoubleEndedIterator::next_back`] does.
     #[inline]
     pub fn next_back(&mut self) -> Option<&'a mut [T]> {
         let RowsMut {
@@ -99,7 +100,7 @@ impl<'a, T> RowsMut<'a, T> {
         let place = row_place(start, width, gap, left);
         let cut = mem::take(&mut self.rest).split_at_mut(place);
         let row = cut.1.split_at_mut(width);
-        // What lies in front of the row is kept.
+        // The entries before the row are kept.
         *self = RowsMut {
             rest: cut.0,
             start,
@@ -111,7 +112,7 @@ impl<'a, T> RowsMut<'a, T> {
     }
 }
 
-/// Where the row of this number begins, counted from the next one.
+/// Returns the index at which row `row` begins, if row 0 is the next row.
 #[inline]
 fn row_place(start: usize, width: usize, gap: usize, row: usize) -> usize {
     start + row * (width + gap)

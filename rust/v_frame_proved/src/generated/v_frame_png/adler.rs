@@ -4,7 +4,7 @@
 /// The largest prime below 65,536.
 const MODULUS: u32 = 65521;
 
-/// After how many bytes at most the sums are reduced: then they are below 2^32.
+/// The largest number of bytes after which the sums must be reduced to stay below 2^32.
 const REACH: usize = 5552;
 
 /// The two sums of Adler-32, each below the modulus.
@@ -15,7 +15,7 @@ pub(crate) struct Adler32 {
 }
 
 impl Adler32 {
-    /// Returns the sums over no byte.
+    /// Returns the sums of no bytes.
     #[inline]
     pub(crate) fn new() -> Self {
         Adler32 {
@@ -24,7 +24,7 @@ impl Adler32 {
         }
     }
 
-    /// Adds bytes.
+    /// Adds `bytes` to the sums.
     pub(crate) fn add(&mut self, bytes: &[u8]) {
         let mut ahead = bytes;
         while ahead.len() > REACH {
@@ -35,7 +35,7 @@ impl Adler32 {
         self.add_few(ahead);
     }
 
-    /// Adds so few bytes that the sums are reduced once.
+    /// Adds at most [`REACH`] bytes, and reduces the sums once.
     fn add_few(&mut self, bytes: &[u8]) {
         let (mut first, mut second) = (self.first, self.second);
         for byte in bytes {

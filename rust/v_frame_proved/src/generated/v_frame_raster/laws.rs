@@ -3,35 +3,35 @@ use crate::generated::v_frame_raster::geometry::PlaneGeometry;
 use crate::generated::v_frame_raster::pixel::Pixel;
 use core::cmp::Ordering;
 
-/// Returns a pixel's value leads back to the pixel: where some pixel has this value, that pixel is the answer.
+/// The value of a pixel determines the pixel. If a pixel has the given value, this function returns it.
 #[inline]
 #[must_use]
 pub fn pixel_of_value<T: Pixel>(value: u16) -> Option<T> {
     T::pixel_try_from_u16(value)
 }
 
-/// Returns a pixel's bytes lead back to the pixel: where some pixel has these bytes, that pixel is the answer.
+/// The bytes of a pixel determine the pixel. If a pixel has the given bytes, this function returns it.
 #[inline]
 #[must_use]
 pub fn pixel_of_bytes<T: Pixel>(bytes: &[u8]) -> T {
     T::pixel_from_le(bytes)
 }
 
-/// Pixels are equal exactly where their values are.
+/// Two pixels are equal if and only if their values are equal.
 #[inline]
 #[must_use]
 pub fn pixels_are_equal<T: Pixel>(p: T, q: T) -> bool {
     p == q
 }
 
-/// Pixels are in the order of their values.
+/// Pixels are ordered by their values.
 #[inline]
 #[must_use]
 pub fn pixels_compare<T: Pixel>(p: T, q: T) -> Ordering {
     p.cmp(&q)
 }
 
-/// Geometries are equal exactly where their sizes, paddings and ratios are.
+/// Two geometries are equal if and only if their sizes, paddings and subsampling ratios are equal.
 #[inline]
 #[must_use]
 pub fn geometries_are_equal(g: PlaneGeometry, h: PlaneGeometry) -> bool {

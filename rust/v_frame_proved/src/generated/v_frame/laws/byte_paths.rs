@@ -7,12 +7,14 @@ use crate::generated::v_frame::pixel::Pixel;
 use crate::generated::v_frame::replay::{Answer, Side, VisibleCall};
 use crate::support::AllocError;
 
-/// Bytes with a stride go through a frame: it is built, filled from them, and its bytes are taken from these sides in turn.
+/// Builds a frame, copies `source` into its luma plane, and reads the bytes of the luma plane from the given sides.
 ///
-/// A source that has a row and its tail for each row of the frame is copied, and the bytes taken are its rows without their
-/// tails. With as many sides as these have bytes, all are taken: those from the front in their order, and after them those
-/// from the back in reverse. The frame is refused as by [`FrameBuilder::build`], and an allocation failure is the only other
-/// error.
+/// `stride` is the distance in bytes between the starts of two rows of `source`. If `source` has a whole stride for each row of
+/// the frame, the copy succeeds, and the bytes that are read are the rows of `source` without the bytes between them. If there
+/// are at least as many `sides` as bytes, all bytes are read: those from the front in order, and those from the back in reverse
+/// order.
+///
+/// The errors are those of [`FrameBuilder::build`], and [`FrameError::OutOfMemory`] if memory cannot be allocated.
 #[inline]
 pub fn bytes_go_through_a_frame<T: Pixel>(
     builder: FrameBuilder,
@@ -24,8 +26,8 @@ pub fn bytes_go_through_a_frame<T: Pixel>(
     copied_and_walked(&mut frame, source, stride, sides).map_err(|_| FrameError::OutOfMemory)
 }
 
-/// Returns the answers of a frame whose luma is filled from bytes with a stride, and whose luma's bytes are taken from these
-/// sides.
+/// Copies bytes with a stride into the luma plane of a frame, reads the bytes of the luma plane from the given sides, and
+/// returns the results of both calls.
 fn copied_and_walked<T: Pixel>(
     frame: &mut Frame<T>,
     source: Vec<u8>,
@@ -36,7 +38,7 @@ fn copied_and_walked<T: Pixel>(
     replayed(frame, calls.as_slice())
 }
 
-/// Returns the calls that copy bytes with a stride into luma and take luma's bytes from these sides.
+/// Returns the two calls: a copy of bytes with a stride into the luma plane, and a read of its bytes from the given sides.
 fn copy_and_walk<T: Pixel>(
     source: Vec<u8>,
     stride: usize,

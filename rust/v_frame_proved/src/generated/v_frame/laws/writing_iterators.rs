@@ -9,8 +9,8 @@ use crate::generated::v_frame::replay::{Drawn, PixelDraw, RowDraw, Side};
 use crate::generated::v_frame::sequence::Sequence;
 use crate::support::AllocError;
 
-/// Any calls of `next` and `next_back` lend each row of a plane once, from its end. The error is an allocation failure: rows
-/// are copied.
+/// Any series of `next` and `next_back` calls on `Plane::rows_mut` lends each row of the plane once. The rows are copied, and
+/// the error means that memory could not be allocated.
 #[inline]
 pub fn lent_rows_are_drawn_once<T: Pixel>(
     plane: &mut Plane<T>,
@@ -19,7 +19,8 @@ pub fn lent_rows_are_drawn_once<T: Pixel>(
     draw_items(&mut plane.rows_mut(), sides)
 }
 
-/// Any calls of `next` and `next_back` lend each pixel of a plane once, from its end. The error is an allocation failure.
+/// Any series of `next` and `next_back` calls on `Plane::pixels_mut` lends each pixel of the plane once. The error means that
+/// memory could not be allocated.
 #[inline]
 pub fn lent_pixels_are_drawn_once<T: Pixel>(
     plane: &mut Plane<T>,
@@ -28,15 +29,15 @@ pub fn lent_pixels_are_drawn_once<T: Pixel>(
     draw_items(&mut plane.pixels_mut(), sides)
 }
 
-/// Rows that any calls of `next` and `next_back` lend hold what is written into them, and all else is as before. Where no
-/// call writes a pixel, so is the whole plane.
+/// Rows that any series of `next` and `next_back` calls lends hold the pixels that are written into them. All other entries of
+/// the plane are unchanged. If no call writes a pixel, the whole plane is unchanged.
 #[inline]
 pub fn lent_rows_hold_what_is_written<T: Copy>(plane: &mut Plane<T>, draws: &[RowDraw<T>]) {
     write_rows(plane, draws);
 }
 
-/// Pixels that any calls of `next` and `next_back` lend hold what is written into them, and all else is as before. Where no
-/// call writes its pixel, so is the whole plane.
+/// Pixels that any series of `next` and `next_back` calls lends hold the values that are written into them. All other entries
+/// of the plane are unchanged. If no call writes its pixel, the whole plane is unchanged.
 #[inline]
 pub fn lent_pixels_hold_what_is_written<T: Copy>(plane: &mut Plane<T>, draws: &[PixelDraw<T>]) {
     write_pixels(plane, draws);

@@ -4,21 +4,21 @@
 use crate::generated::v_frame::pixel::Pixel;
 use crate::generated::v_frame::plane::RowsRef;
 
-/// Sums over a part of two pictures, of which SSIM is made.
+/// The sums over a part of two pictures from which SSIM is computed.
 #[derive(Clone, Copy, Debug, PartialEq, Eq)]
 pub struct PixelSums {
     /// The sum of the values of the first picture.
     pub first: u64,
     /// The sum of the values of the second picture.
     pub second: u64,
-    /// The sum of the squares of the values of both.
+    /// The sum of the squared values of both pictures.
     pub squares: u64,
-    /// The sum, over all places, of the product of the two values there.
+    /// The sum of the products of two values at the same position.
     pub products: u64,
 }
 
 impl PixelSums {
-    /// Those over no pixels.
+    /// The sums over no pixels.
     const NONE: PixelSums = PixelSums {
         first: 0,
         second: 0,
@@ -26,7 +26,7 @@ impl PixelSums {
         products: 0,
     };
 
-    /// Returns the sums over two parts.
+    /// Returns the sums over both parts together.
     #[inline(always)]
     pub(crate) fn plus(&self, more: &PixelSums) -> Self {
         PixelSums {
@@ -38,7 +38,7 @@ impl PixelSums {
     }
 }
 
-/// Returns the sums over four columns of eight rows.
+/// Returns the sums over four columns of eight rows, from column `x` of row `y` on.
 #[inline(always)]
 pub(crate) fn sums_of_columns<T: Pixel>(
     a: &RowsRef<'_, T>,
