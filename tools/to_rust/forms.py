@@ -74,6 +74,8 @@ OTHERS = [
     ("debug-of-field", "self . items . fmt ( f )", "fmt::Debug::fmt(&self.items, f)"),
     ("prove", "« prove » !", "debug_assert"),
     ("unstable-kind", "io :: Error :: from ( ErrorKind :: FilesystemLoop )", "fs::too_many_links()"),
+    ("file-lock", "self . try_lock ( )", "crate::support::fs::try_lock(self)"),
+    ("file-lock", ". try_lock (", None),
     ("slice-trait", "impl < T > AsSlice < T > for _ < T > { .. }"),
     ("slice-trait", "« DerefSlice » for _ < T > { type « Elem » = « T » ;", "Deref", "Target", "[T]"),
     ("handle", "« eprintln » ! ( « rt ; »", "writeln", "std::io::stderr(),"),

@@ -160,3 +160,41 @@ pub fn rename<H: Files>(_rt: &H, from: &str, to: &str) -> io::Result<()> {
 pub fn too_many_links() -> io::Error {
     io::Error::from_raw_os_error(if cfg!(target_os = "linux") { 40 } else { 62 })
 }
+
+/// Why a file was not locked.
+pub enum TryLockError {
+    /// Another open file has a lock of the same file.
+    WouldBlock,
+    /// The system, or the `std` that this program was built with, cannot lock the file.
+    #[allow(dead_code)] // Only tests read the cause.
+    Error(io::Error),
+}
+
+/// Provides `try_lock` for a `std` without locks of files, which is every `std` before Rust 1.89. A later `std` has a method of
+/// this name for files, and the compiler chooses a method of a type before a method of a trait.
+#[allow(dead_code)] // Rust 1.89 and later do not use it.
+pub trait WithoutLocks {
+    /// Returns an error of the kind [`ErrorKind::Unsupported`].
+    fn try_lock(&self) -> io::Result<()> {
+        Err(io::Error::from(ErrorKind::Unsupported))
+    }
+}
+
+impl<T> WithoutLocks for T {}
+
+/// Locks a file for this process until it is closed. Does not wait for another lock.
+///
+/// # Errors
+///
+/// - [`TryLockError::WouldBlock`] if the file is locked.
+/// - [`TryLockError::Error`] if the file cannot be locked, which is always the case if the program was built with a Rust
+///   version before 1.89.
+pub fn try_lock(file: &File) -> Result<(), TryLockError> {
+    // The error of the method in `std` converts to an error of the system, and so does an error of the system itself.
+    #[allow(clippy::incompatible_msrv, clippy::useless_conversion, unstable_name_collisions)]
+    let locked = file.try_lock().map_err(io::Error::from);
+    locked.map_err(|error| match error.kind() {
+        ErrorKind::WouldBlock => TryLockError::WouldBlock,
+        _ => TryLockError::Error(error),
+    })
+}

@@ -2,7 +2,7 @@
 
 use super::cases::Room;
 use crate::support::HostRuntime;
-use crate::support::fs::{self, OpenFile, OpenOptions};
+use crate::support::fs::{self, OpenFile, OpenOptions, TryLockError, WithoutLocks};
 use crate::support::path::PathBuf;
 use crate::support::time::Instant;
 use std::io::{ErrorKind, Write};
@@ -44,6 +44,26 @@ fn links_are_followed_where_it_is_asked() {
     assert_eq!(fs::canonicalize(&rt, &name("link")).expect("a file").as_str(), name("mono_7x5.y4m"));
     let refused = fs::open(&rt, &name("round")).expect_err("a link to itself");
     assert_eq!(fs::too_many_links().raw_os_error(), refused.raw_os_error());
+}
+
+/// Fails with a Rust version before 1.89, whose `std` cannot lock files.
+#[test]
+fn a_file_is_locked_once_until_it_is_closed() {
+    let (room, rt) = (Room::new("locks"), HostRuntime::new().expect("standard streams"));
+    let name = room.folder().join("locked").into_os_string().into_string().expect("UTF-8");
+    let first = fs::create(&rt, &name).expect("a new file");
+    let second = fs::open(&rt, &name).expect("the file");
+    assert!(fs::try_lock(&first).is_ok());
+    assert!(matches!(fs::try_lock(&second), Err(TryLockError::WouldBlock)));
+    drop(first);
+    assert!(fs::try_lock(&second).is_ok());
+}
+
+/// A type without a method `try_lock`, as `File` is before Rust 1.89.
+#[test]
+fn without_locks_the_kind_of_the_error_is_unsupported() {
+    let locked = ().try_lock();
+    assert_eq!(locked.map_err(|error| error.kind()), Err(ErrorKind::Unsupported));
 }
 
 #[test]
