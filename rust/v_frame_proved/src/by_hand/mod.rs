@@ -4,9 +4,10 @@
 //! is left to the generated code.
 
 pub mod crop;
-#[cfg(feature = "std")]
 mod errors;
 mod frames;
+mod lists;
+pub mod names;
 #[cfg(feature = "std")]
 pub mod quality;
 #[cfg(feature = "std")]

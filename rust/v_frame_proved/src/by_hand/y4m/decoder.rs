@@ -58,11 +58,13 @@ pub struct Decoder<R> {
 impl<R: io::Read> Decoder<R> {
     /// Reads the header of a stream.
     ///
+    /// If the call fails, the reader is dropped. To keep it, pass `&mut reader`.
+    ///
     /// # Errors
     ///
     /// - [`StreamError::Empty`] if the reader has no bytes.
     /// - [`StreamError::Format`] if the header line is rejected, if its frames are too large, or if a memory allocation fails.
-    /// - [`StreamError::Io`] if a read fails.
+    /// - [`StreamError::Io`] if a read fails, or if the reader reports more bytes than the slice has.
     pub fn new(reader: R) -> Result<Self, StreamError> {
         let mut reader = Kept::new(reader);
         let mut first = [0];
@@ -91,7 +93,7 @@ impl<R: io::Read> Decoder<R> {
     ///   Nothing was read then.
     /// - [`StreamError::Format`] if the line in front of the frame is not valid, or if a memory allocation fails.
     /// - [`StreamError::Truncated`] if the stream ends inside the frame.
-    /// - [`StreamError::Io`] if a read fails.
+    /// - [`StreamError::Io`] if a read fails, or if the reader reports more bytes than the slice has.
     /// - [`StreamError::AfterFailure`] if an earlier call failed with `Format`, `Truncated` or `Io`.
     ///
     /// After an error, `frame` is unchanged.

@@ -14,6 +14,22 @@ use std::io::{self, Write as _};
 ///
 /// This type is written by hand. Interrupted writes are retried. Samples are written unchanged, even those above the largest
 /// value of their bit depth. [`finish`](Self::finish) flushes the writer. A `BufWriter` saves one short write for each frame.
+///
+/// [`into_inner`](Self::into_inner) returns the writer at any time, also after a failed write:
+///
+/// ```
+/// use v_frame_proved::y4m::{Color, Encoder, StreamError, StreamHeader, VideoFrame};
+///
+/// let header = StreamHeader::new(2, 1, Color::Mono);
+/// let frame = VideoFrame::blank(&header)?;
+/// let mut disk = [0; 34]; // The header line has 22 bytes, and each frame has 8 bytes with its line.
+/// let mut encoder = Encoder::new(&mut disk[..], header)?;
+/// encoder.write_frame(&frame)?;
+/// assert!(matches!(encoder.write_frame(&frame), Err(StreamError::Io(_))));
+/// assert!(encoder.into_inner().is_empty()); // No byte of the array is left.
+/// assert_eq!(disk, *b"YUV4MPEG2 W2 H1 Cmono\nFRAME\n\0\0FRAM");
+/// # Ok::<(), Box<dyn std::error::Error>>(())
+/// ```
 pub struct Encoder<W> {
     writer: Kept<W>,
     header: StreamHeader,
@@ -23,11 +39,13 @@ pub struct Encoder<W> {
 impl<W: io::Write> Encoder<W> {
     /// Writes the header line.
     ///
+    /// If the call fails, the writer is dropped. To keep it, pass `&mut writer`.
+    ///
     /// # Errors
     ///
     /// - [`StreamError::UnwritableHeader`] if no valid line can state `header`. Nothing was written then.
     /// - [`StreamError::Format`] if a memory allocation fails. Nothing was written then.
-    /// - [`StreamError::Io`] if a write fails or accepts no bytes.
+    /// - [`StreamError::Io`] if a write fails, if it accepts no bytes, or if it reports more bytes than the slice has.
     pub fn new(writer: W, header: StreamHeader) -> Result<Self, StreamError> {
         let line = header_line(&header).map_err(Y4mError::from)?;
         if !header.is_writable() || line.len() > MAX_LINE_BYTES {
@@ -44,7 +62,7 @@ impl<W: io::Write> Encoder<W> {
     ///
     /// - [`StreamError::Mismatch`] if the size, the format, the bit depth or the pixel type of `frame` differs from the header.
     ///   Nothing was written then.
-    /// - [`StreamError::Io`] if a write fails or accepts no bytes.
+    /// - [`StreamError::Io`] if a write fails, if it accepts no bytes, or if it reports more bytes than the slice has.
     /// - [`StreamError::AfterFailure`] if an earlier write failed.
     pub fn write_frame(&mut self, frame: &VideoFrame) -> Result<(), StreamError> {
         with_frame!(frame, frame => self.write(frame))
@@ -79,18 +97,40 @@ impl<W: io::Write> Encoder<W> {
         written
     }
 
+    /// Flushes the writer. After an error the call may be repeated.
+    ///
+    /// # Errors
+    ///
+    /// - [`StreamError::AfterFailure`] if an earlier write failed.
+    /// - [`StreamError::Io`] if the flush fails.
+    pub fn flush(&mut self) -> Result<(), StreamError> {
+        if self.has_failed {
+            return Err(StreamError::AfterFailure);
+        }
+        self.writer.call(|writer| writer.flush().map_err(|_| PlanarError::Write))
+    }
+
     /// Flushes the writer and returns it.
+    ///
+    /// If the call fails, the writer is dropped. To keep it, call [`flush`](Self::flush) and then
+    /// [`into_inner`](Self::into_inner).
     ///
     /// # Errors
     ///
     /// - [`StreamError::AfterFailure`] if an earlier write failed.
     /// - [`StreamError::Io`] if the flush fails.
     pub fn finish(mut self) -> Result<W, StreamError> {
-        if self.has_failed {
-            return Err(StreamError::AfterFailure);
-        }
-        self.writer.call(|writer| writer.flush().map_err(|_| PlanarError::Write))?;
-        Ok(self.writer.inner)
+        self.flush()?;
+        Ok(self.into_inner())
+    }
+}
+
+impl<W> Encoder<W> {
+    /// Returns the writer without flushing it. After a failed write, the writer may have received a part of a frame.
+    #[inline]
+    #[must_use]
+    pub fn into_inner(self) -> W {
+        self.writer.inner
     }
 
     /// Returns the header.
