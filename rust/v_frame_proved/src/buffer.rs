@@ -132,6 +132,29 @@ impl<T> AlignedData<Option<T>> {
     }
 }
 
+impl<T: Copy> AlignedData<T> {
+    /// Returns a buffer with these entries, without a copy. The first entry is aligned only if the list happens to be.
+    #[inline]
+    pub fn from_vec(entries: Vec<T>) -> Self {
+        AlignedData { entries, start: 0 }
+    }
+
+    /// Returns a list of `count` parts of the buffer, each with `len` entries. The first part begins at index `origin`, and each
+    /// following part begins `stride` entries later. No memory is allocated.
+    #[inline]
+    pub fn into_parts(self, origin: usize, len: usize, stride: usize, count: usize) -> Vec<T> {
+        let (mut entries, first) = (self.entries, self.start + origin);
+        if first > 0 || len < stride {
+            for part in 0..count {
+                let start = first + part * stride;
+                entries.copy_within(start..start + len, part * len);
+            }
+        }
+        entries.truncate(len * count);
+        entries
+    }
+}
+
 impl<T: PartialEq> PartialEq for AlignedData<T> {
     #[inline]
     fn eq(&self, other: &Self) -> bool {

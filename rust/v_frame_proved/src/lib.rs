@@ -82,7 +82,7 @@ pub use generated::{
 pub use support::AllocError;
 
 // These modules are written by hand and not generated from proved sources.
-pub use by_hand::{crop, names, views};
+pub use by_hand::{crop, lists, names, views};
 #[cfg(feature = "std")]
 pub use by_hand::{quality, y4m};
 

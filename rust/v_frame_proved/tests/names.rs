@@ -124,9 +124,9 @@ mod of_streams {
         has_text(ChromaSiting::Left, "left");
         has_text(ChromaSiting::Alternating, "alternating");
         rejects::<ChromaSiting>("expected center, left or alternating", &["", "Center", "top"]);
-        has_text(Component::Y, "Y");
-        has_text(Component::U, "U");
-        has_text(Component::V, "V");
+        for (text, component) in [("Y", Component::Y), ("U", Component::U), ("V", Component::V)] {
+            assert_eq!((component.to_string().as_str(), text.parse()), (text, Ok(component)));
+        }
         rejects::<Component>("expected Y, U or V", &["", "y", "YU", "Cb"]);
     }
 

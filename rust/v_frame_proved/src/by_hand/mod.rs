@@ -6,7 +6,7 @@
 pub mod crop;
 mod errors;
 mod frames;
-mod lists;
+pub mod lists;
 pub mod names;
 #[cfg(feature = "std")]
 pub mod quality;
