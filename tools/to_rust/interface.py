@@ -58,6 +58,8 @@ def rewrite_types(source):
         if item.kind == "impl" and item.trait == "Pixel":
             source.insert(item.end, "pixel-parts", f"impl Pixel for {item.subject} {{}}", "\n\n")
             source.replace(item.keyword + 1, item.keyword + 2, "pixel-parts", "PixelCalls")
+        if item.kind == "impl" and item.subject.split("<")[0] in tables.FAST_ITERATORS.get(item.trait, ()):
+            source.insert(item.body[1], "iterator-call", tables.FAST_CALLS[item.trait].strip(), "\n\n    ")
         if item.kind == "trait" and item.name == "Pixel":
             source.insert(item.body[0], "pixel-parts", tables.PIXEL_BOUNDS, "\n    ")
         if item.kind not in ("struct", "enum"):

@@ -55,6 +55,10 @@ WITHOUT_TESTS = {trait: names.split() for trait, names in rows_of("tables.md", "
 FACTS = {("v_frame_turn", "write_reversed"), ("v_frame_semi_planar", "deinterleave_pixels")}
 # The additional bounds of the original's `Pixel`, and the head of the hidden trait.
 PIXEL_BOUNDS = page("tables.md").split("```rust\n")[1].split("\n```")[0]
+# The iterators that get hand-written versions of provided methods, by trait, and the methods of each trait.
+FAST_ITERATORS = {trait: names.split() for trait, names in rows_of("tables.md", "trait | iterators")}
+FAST_CALLS = {trait: page("tables.md").split(f"The methods of `{trait}`:\n\n```rust\n")[1].split("\n```")[0]
+              for trait in FAST_ITERATORS}
 # The names of a pixel type in front of `::`, and its members in the source.
 PIXEL_TYPES = {"T", "S", "u8", "u16", "Pixel"}
 PIXEL_CALLS = {"BYTES", "ZERO", "into_u16", "try_into_u8", "from_u8", "try_from_u16", *WITHOUT_TESTS["Pixel"]}

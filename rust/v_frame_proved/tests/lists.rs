@@ -24,7 +24,8 @@ fn check<T: Pixel + From<u8>>(width: usize, height: usize) {
     // No pixel is copied on the way from a list to a plane and back.
     let plane = Plane::from_vec(width, height, list).expect("a plane");
     assert_eq!(plane.data().as_ptr(), address);
-    assert_eq!(plane.into_vec().as_ptr(), address);
+    let list = plane.into_vec();
+    assert_eq!(list.as_ptr(), address);
 
     for (left, right, top, bottom) in [(0, 0, 0, 1), (0, 1, 0, 0), (1, 0, 0, 0), (0, 0, 1, 0), (3, 2, 4, 5), (64, 64, 0, 9)] {
         let geometry = PlaneGeometry::new(width, height, left, right, top, bottom, 1, 1).expect("a geometry");

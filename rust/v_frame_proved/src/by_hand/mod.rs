@@ -6,6 +6,7 @@
 pub mod crop;
 mod errors;
 mod frames;
+mod iterators;
 pub mod lists;
 pub mod names;
 #[cfg(feature = "std")]
