@@ -29,7 +29,8 @@ pub fn mean_squared_error<T: Pixel>(a: &RowsRef<'_, T>, b: &RowsRef<'_, T>) -> f
 /// above 16 counts as 16.
 ///
 /// The result is the mean over windows of 8 by 8 pixels at every fourth column and row. Returns `None` if and only if the width
-/// or the height is below 8.
+/// or the height is below 8. If `bit_depth` is from 0 to 3, the result may be NaN, as
+/// [`ssim`](crate::ssim) of planes describes.
 pub fn ssim<T: Pixel>(a: &RowsRef<'_, T>, b: &RowsRef<'_, T>, bit_depth: u8) -> Option<f64>
     requires wide { width_of a.now ≡ width_of b.now }
     requires high { height_of a.now ≡ height_of b.now }

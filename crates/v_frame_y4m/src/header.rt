@@ -103,7 +103,9 @@ impl StreamHeader {
     /// and no extension contains a space or a line feed.
     ///
     /// Every header that was read can be written. A line of more than [`MAX_LINE_BYTES`](crate::MAX_LINE_BYTES) is written too,
-    /// although no reader of this crate accepts it.
+    /// although no reader of this crate accepts it. A carriage return at the end of the last extension is written, too.
+    /// [`read_header`](crate::read_header) reads it back, but [`read_lax_header`](crate::read_lax_header) leaves it out, because
+    /// lax lines may end with a carriage return.
     pub fn is_writable(&self) -> bool
         ensures { IsTrue result ↔ IsWritable self.now }
     {

@@ -39,6 +39,9 @@ pub struct Encoder<W> {
 impl<W: io::Write> Encoder<W> {
     /// Writes the header line.
     ///
+    /// A carriage return at the end of the last extension is written, but a [`Decoder`](super::Decoder) leaves it out, because
+    /// lax lines may end with a carriage return.
+    ///
     /// If the call fails, the writer is dropped. To keep it, pass `&mut writer`.
     ///
     /// # Errors
