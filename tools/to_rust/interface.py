@@ -10,6 +10,7 @@ from .items import functions_of, items_of, parameters_of
 SHORT = 40
 RESULTS = ("Result<", "io::Result<", "slice::Iter<", "!")  # These types are `must_use` themselves.
 # The tokens of a parameter before the type of its pixels, and the trait and its method that replace them.
+TARGET = ": & mut Plane <"  # The tokens of a parameter before the type of the pixels that are written.
 VIEWS = {": & PlaneRef < '_ ,": ("AsPlaneRef", "as_plane_ref"), ": & RowsRef < '_ ,": ("AsRowsRef", "as_rows_ref")}
 
 
@@ -32,20 +33,34 @@ def rewrite_functions(source):
 
 
 def take_views(source, reach):
-    """Makes public functions that read accept planes and views. The body takes the view first."""
+    """Makes public functions that read accept planes and views, and those that write visible pixels accept every type that has
+    some. The body takes the views first."""
     for item in reversed(functions_of(source)):
         if item.body is None or "laws" in source.module or not reach.is_public(source, item):
             continue
         names = [at for _, at, _ in parameters_of(source, item)]
         found = [(at, *VIEWS[form]) for at in names for form in VIEWS if source.matches(at + 1, form)]
+        targets = [(at, "AsRowsMut", None) for at in names if is_target(source, item, at)]
         if found:
             lead = source.line_start(item.head) + "    "
             lines = [f"let {source[at]} = &{source[at]}.{call}();" for at, _, call in found]
             source.insert(item.body[0] + 1, "view-taken", lead.join(lines), lead)
-        for at, trait, _ in reversed(found):
-            closing = source.closing(at + 4)
-            text = f"impl {trait}<Pixel = {source.words(at + 7, closing)}>"
-            source.replace(at + 2, closing + 1, "view-parameter", text)
+        for at, trait, call in sorted(found + targets, reverse=True):
+            opening = at + (4 if call else 5)
+            closing = source.closing(opening)
+            text = f"impl {trait}<Pixel = {source.words(opening + (3 if call else 1), closing)}>"
+            if call:
+                source.replace(at + 2, closing + 1, "view-parameter", text)
+            else:
+                source.replace(at + 4, closing + 1, "target-parameter", text)
+
+
+def is_target(source, item, at):
+    """Returns whether the function writes only visible pixels of the plane that is its parameter at `at`."""
+    if source.crate not in tables.WITH_TARGETS or item.owner is not None or not source.matches(at + 1, TARGET):
+        return False
+    uses = [k for k in range(*item.body) if source[k] == source[at] and source[k + 1] == "."]
+    return {source[k + 2] for k in uses} <= tables.TARGET_CALLS
 
 
 def rewrite_types(source):

@@ -59,6 +59,9 @@ PIXEL_BOUNDS = page("tables.md").split("```rust\n")[1].split("\n```")[0]
 FAST_ITERATORS = {trait: names.split() for trait, names in rows_of("tables.md", "trait | iterators")}
 FAST_CALLS = {trait: page("tables.md").split(f"The methods of `{trait}`:\n\n```rust\n")[1].split("\n```")[0]
               for trait in FAST_ITERATORS}
+# The crates whose functions write visible pixels of every type that has some, and the methods by which they do so.
+WITH_TARGETS = {f"v_frame_{name}" for name in "ops convert turn resize rgb semi_planar".split()}
+TARGET_CALLS = {"width", "height", "visible_mut", "visible_region_mut"}
 # The names of a pixel type in front of `::`, and its members in the source.
 PIXEL_TYPES = {"T", "S", "u8", "u16", "Pixel"}
 PIXEL_CALLS = {"BYTES", "ZERO", "into_u16", "try_into_u8", "from_u8", "try_from_u16", *WITHOUT_TESTS["Pixel"]}
