@@ -1,11 +1,12 @@
 //! Reads streams from any reader.
 
-use super::frame::{show, with_frame};
+use super::frame::show;
 use super::kept::Kept;
 use super::{StreamError, StreamHeader, VideoFrame, Y4mError};
 use crate::generated::v_frame_y4m::{read_lax_frame_line, read_lax_header};
 use crate::planar::{Counted, PlanarError, read_until_full};
 use alloc::vec::Vec;
+use crate::with_frame;
 use core::fmt;
 use core::iter::FusedIterator;
 use std::io::{self, Read as _};
@@ -106,7 +107,7 @@ impl<R: io::Read> Decoder<R> {
         }
         let more = self.read_bytes()?;
         if more {
-            with_frame!(frame, frame => show(frame, &self.bytes));
+            with_frame!(frame, |frame| show(frame, &self.bytes));
         }
         Ok(more)
     }
@@ -117,7 +118,7 @@ impl<R: io::Read> Decoder<R> {
             return Ok(None);
         }
         let mut frame = VideoFrame::blank(&self.header).inspect_err(|_| self.state = State::Failed)?;
-        with_frame!(&mut frame, frame => show(frame, &self.bytes));
+        with_frame!(&mut frame, |frame| show(frame, &self.bytes));
         Ok(Some(frame))
     }
 

@@ -1,12 +1,13 @@
 //! Writes streams to any writer.
 
-use super::frame::{is_frame_of, with_frame};
+use super::frame::is_frame_of;
 use super::kept::Kept;
 use super::{MAX_LINE_BYTES, StreamError, StreamHeader, VideoFrame, Y4mError};
 use crate::generated::v_frame_y4m::{header_line, write_frame, write_header};
 use crate::frame::Frame;
 use crate::pixel::Pixel;
 use crate::planar::{Counted, PlanarError};
+use crate::with_frame;
 use core::fmt;
 use std::io::{self, Write as _};
 
@@ -68,7 +69,7 @@ impl<W: io::Write> Encoder<W> {
     /// - [`StreamError::Io`] if a write fails, if it accepts no bytes, or if it reports more bytes than the slice has.
     /// - [`StreamError::AfterFailure`] if an earlier write failed.
     pub fn write_frame(&mut self, frame: &VideoFrame) -> Result<(), StreamError> {
-        with_frame!(frame, frame => self.write(frame))
+        with_frame!(frame, |frame| self.write(frame))
     }
 
     /// Writes a frame of either pixel type, like [`write_frame`](Self::write_frame).

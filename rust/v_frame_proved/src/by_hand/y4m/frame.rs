@@ -11,6 +11,7 @@ use crate::plane::Plane;
 use crate::quality::{FramePsnr, MeasureError, frame_mean_squared_error, frame_psnr, frame_ssim};
 
 /// A frame of a stream, with the pixel type that its bit depth requires. This type is written by hand.
+/// [`with_frame!`](crate::with_frame) evaluates an expression for the frame of either pixel type.
 ///
 /// ```
 /// use v_frame_proved::chroma::ChromaSubsampling;
@@ -37,24 +38,60 @@ pub enum VideoFrame {
     HighDepth(Frame<u16>),
 }
 
-/// Evaluates an expression for a frame of either pixel type.
+/// Evaluates an expression for a [`VideoFrame`](crate::y4m::VideoFrame), as a generic closure would: the expression is compiled
+/// for frames of `u8` and for frames of `u16`, and may call functions that are generic over [`Pixel`](crate::pixel::Pixel).
+///
+/// The first argument is a `VideoFrame`, `&VideoFrame` or `&mut VideoFrame`, and the parameter is a `Frame`, `&Frame` or
+/// `&mut Frame`. With two such arguments, the value is `Some` if both frames have the same pixel type, and `None` otherwise.
+///
+/// This macro is written by hand.
+///
+/// ```
+/// use v_frame_proved::chroma::ChromaSubsampling;
+/// use v_frame_proved::ops::{combine_pixels, fill};
+/// use v_frame_proved::with_frame;
+/// use v_frame_proved::y4m::{Color, StreamHeader, VideoFrame};
+///
+/// /// Removes the color, and adds the luma of another frame, whatever the pixel type is.
+/// fn change(video: &mut VideoFrame, other: &VideoFrame) -> Option<()> {
+///     let middle = 1_u16 << (video.bit_depth() - 1);
+///     with_frame!(&mut *video, |frame| for plane in frame.planes_mut().skip(1) {
+///         fill(plane, middle.try_into().expect("a depth of 8 bits has small values"));
+///     });
+///     with_frame!(video, other, |frame, other| {
+///         combine_pixels(&mut frame.y_plane, &other.y_plane, |a, b| a.saturating_add(b));
+///     })
+/// }
+///
+/// let color = Color::new(ChromaSubsampling::Yuv420, 10, None).ok_or("no such color")?;
+/// let mut video = VideoFrame::blank(&StreamHeader::new(2, 2, color))?;
+/// let mut other = video.clone();
+/// with_frame!(&mut other, |frame| frame.y_plane[1][1] = 9);
+/// assert_eq!(change(&mut video, &other), Some(()));
+/// assert_eq!(with_frame!(&video, |frame| u16::from(frame.y_plane[1][1])), 9);
+/// assert_eq!(with_frame!(&video, |frame| frame.planes().map(|plane| u16::from(plane[0][0])).sum::<u16>()), 1024);
+///
+/// let eight_bits = VideoFrame::blank(&StreamHeader::new(2, 2, Color::Mono))?;
+/// assert_eq!(change(&mut video, &eight_bits), None);
+/// # Ok::<(), Box<dyn std::error::Error>>(())
+/// ```
+#[macro_export]
 macro_rules! with_frame {
-    ($video:expr, $frame:ident => $result:expr) => {
+    ($video:expr, |$frame:ident| $result:expr $(,)?) => {
         match $video {
-            VideoFrame::EightBits($frame) => $result,
-            VideoFrame::HighDepth($frame) => $result,
+            $crate::y4m::VideoFrame::EightBits($frame) => $result,
+            $crate::y4m::VideoFrame::HighDepth($frame) => $result,
         }
     };
-}
-pub(super) use with_frame;
-
-/// Measures two frames of the same pixel type.
-macro_rules! measure {
-    ($measure:ident, $a:expr, $b:expr) => {
-        match ($a, $b) {
-            (VideoFrame::EightBits(a), VideoFrame::EightBits(b)) => $measure(a, b),
-            (VideoFrame::HighDepth(a), VideoFrame::HighDepth(b)) => $measure(a, b),
-            (a, b) => Err(MeasureError::DepthsDiffer { first: a.bit_depth(), second: b.bit_depth() }),
+    ($first:expr, $second:expr, |$a:ident, $b:ident| $result:expr $(,)?) => {
+        match ($first, $second) {
+            ($crate::y4m::VideoFrame::EightBits($a), $crate::y4m::VideoFrame::EightBits($b)) => {
+                ::core::option::Option::Some($result)
+            }
+            ($crate::y4m::VideoFrame::HighDepth($a), $crate::y4m::VideoFrame::HighDepth($b)) => {
+                ::core::option::Option::Some($result)
+            }
+            _ => ::core::option::Option::None,
         }
     };
 }
@@ -81,28 +118,28 @@ impl VideoFrame {
     #[inline]
     #[must_use]
     pub fn width(&self) -> usize {
-        with_frame!(self, frame => frame.width())
+        with_frame!(self, |frame| frame.width())
     }
 
     /// Returns the visible height of the luma plane in pixels.
     #[inline]
     #[must_use]
     pub fn height(&self) -> usize {
-        with_frame!(self, frame => frame.height())
+        with_frame!(self, |frame| frame.height())
     }
 
     /// Returns the number of bits of a sample.
     #[inline]
     #[must_use]
     pub fn bit_depth(&self) -> u8 {
-        with_frame!(self, frame => frame.bit_depth.get())
+        with_frame!(self, |frame| frame.bit_depth.get())
     }
 
     /// Returns the chroma subsampling.
     #[inline]
     #[must_use]
     pub fn subsampling(&self) -> ChromaSubsampling {
-        with_frame!(self, frame => frame.subsampling)
+        with_frame!(self, |frame| frame.subsampling)
     }
 
     /// Returns a copy of a rectangle of the frame, like [`Frame::crop`].
@@ -111,7 +148,7 @@ impl VideoFrame {
     ///
     /// The errors of [`Frame::crop`].
     pub fn crop(&self, x: usize, y: usize, width: usize, height: usize) -> Result<Self, CropError> {
-        with_frame!(self, frame => frame.crop(x, y, width, height).map(Self::from))
+        with_frame!(self, |frame| frame.crop(x, y, width, height).map(Self::from))
     }
 
     /// Returns the mean squared errors of this frame and `other`, like [`frame_mean_squared_error`].
@@ -120,7 +157,7 @@ impl VideoFrame {
     ///
     /// The errors of [`frame_mean_squared_error`]. Frames of different pixel types have different bit depths.
     pub fn mean_squared_error(&self, other: &Self) -> Result<FrameMeasure, MeasureError> {
-        measure!(frame_mean_squared_error, self, other)
+        with_frame!(self, other, |a, b| frame_mean_squared_error(a, b)).unwrap_or_else(|| self.depths_differ(other))
     }
 
     /// Returns the peak signal-to-noise ratios of this frame and `other`, like [`frame_psnr`].
@@ -129,7 +166,7 @@ impl VideoFrame {
     ///
     /// The errors of [`frame_psnr`]. Frames of different pixel types have different bit depths.
     pub fn psnr(&self, other: &Self) -> Result<FramePsnr, MeasureError> {
-        measure!(frame_psnr, self, other)
+        with_frame!(self, other, |a, b| frame_psnr(a, b)).unwrap_or_else(|| self.depths_differ(other))
     }
 
     /// Returns the structural similarities of this frame and `other`, like [`frame_ssim`].
@@ -138,12 +175,17 @@ impl VideoFrame {
     ///
     /// The errors of [`frame_ssim`]. Frames of different pixel types have different bit depths.
     pub fn ssim(&self, other: &Self) -> Result<FrameMeasure, MeasureError> {
-        measure!(frame_ssim, self, other)
+        with_frame!(self, other, |a, b| frame_ssim(a, b)).unwrap_or_else(|| self.depths_differ(other))
+    }
+
+    /// Returns the error of two frames with different pixel types.
+    fn depths_differ<A>(&self, other: &Self) -> Result<A, MeasureError> {
+        Err(MeasureError::DepthsDiffer { first: self.bit_depth(), second: other.bit_depth() })
     }
 
     /// Returns whether the frame fits the streams of this header.
     pub(super) fn fits(&self, header: &StreamHeader) -> bool {
-        with_frame!(self, frame => is_frame_of(frame, header))
+        with_frame!(self, |frame| is_frame_of(frame, header))
     }
 }
 
