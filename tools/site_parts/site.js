@@ -47,11 +47,20 @@ function scoresOf(wanted) {
     return scores;
 }
 
+// Returns 100 if the title of a section is the question, 10 if it begins with the question, and 0 otherwise.
+function titleScore(title, question) {
+    if (title === question) {
+        return 100;
+    }
+    return title.startsWith(question) ? 10 : 0;
+}
+
 // Returns the sections that have all words of a question, the best first.
 function find(question) {
-    const wanted = question.toLowerCase().match(/[\p{L}\p{N}_]+/gu) || [];
+    const wanted = question.match(/[\p{L}\p{N}_]+/gu) || [];
     const scores = wanted.map(scoresOf);
-    const total = (place) => scores.reduce((sum, it) => sum + it.get(place), 0);
+    const bonus = (place) => titleScore(searchIndex.sections[place][1].toLowerCase(), question);
+    const total = (place) => scores.reduce((sum, it) => sum + it.get(place), bonus(place));
     const places = scores.length === 0 ? [] : [...scores[0].keys()];
     return places
         .filter((place) => scores.every((it) => it.has(place)))
@@ -80,22 +89,35 @@ function close() {
 
 // Shows the results for the words in the search field in place of the text.
 function show() {
-    const question = field.value.trim();
+    const question = field.value.trim().toLowerCase();
     results.hidden = question.length < 2;
     text.hidden = !results.hidden;
     if (results.hidden) {
         return;
     }
     withIndex(() => {
-        const found = find(field.value);
+        const found = find(question);
         const heading = document.createElement("h1");
         const list = document.createElement("ol");
         heading.textContent = found.length === 1 ? "1 result" : `${found.length} results`;
+        if (found.length > mostResults) {
+            heading.textContent += `, the first ${mostResults} shown`;
+        }
         list.append(...found.slice(0, mostResults).map(entry));
         results.replaceChildren(heading, list);
     });
 }
 
+// Scrolls the navigation to the entry of this page.
+function showEntry() {
+    const header = document.querySelector("header");
+    const current = document.querySelector("nav [aria-current]");
+    if (current) {
+        header.scrollTop = current.offsetTop - header.clientHeight / 2;
+    }
+}
+
+showEntry();
 field.addEventListener("input", show);
 document.addEventListener("keydown", (event) => {
     if (event.key === "Escape") {
