@@ -3,7 +3,7 @@
 use crate::blocks::{Measure, compare_blocks};
 use crate::desk::Desk;
 use crate::error::BenchError;
-use crate::{reads, whole, writes};
+use crate::{pixel_loops, reads, whole, writes};
 use v_frame::chroma::ChromaSubsampling;
 use v_frame::pixel::Pixel;
 
@@ -20,6 +20,7 @@ pub enum Case {
     SumByPixel,
     SumByPixels,
     SumByPixelsBack,
+    SumByUnwrap,
     PixelScattered,
     CountDiffering,
     SumByByteData,
@@ -30,6 +31,11 @@ pub enum Case {
     FillByRowMut,
     FillByRowsMut,
     FillByPixelMut,
+    FillByUnwrap,
+    RampByPixelMut,
+    RampByUnwrap,
+    ChangeByUnwrap,
+    MeanByUnwrap,
     FillByPixelsMut,
     PixelMutScattered,
     Fill,
@@ -42,7 +48,7 @@ pub enum Case {
 }
 
 /// The names of the cases, in the order in which they are measured.
-pub const CASES: [(&str, Case); 35] = [
+pub const CASES: [(&str, Case); 41] = [
     ("build_mono", Case::BuildMono),
     ("build_420", Case::Build420),
     ("clone_plane", Case::ClonePlane),
@@ -53,6 +59,7 @@ pub const CASES: [(&str, Case); 35] = [
     ("sum_by_pixel", Case::SumByPixel),
     ("sum_by_pixels", Case::SumByPixels),
     ("sum_by_pixels_back", Case::SumByPixelsBack),
+    ("sum_by_unwrap", Case::SumByUnwrap),
     ("pixel_scattered", Case::PixelScattered),
     ("count_differing_by_pixels", Case::CountDiffering),
     ("sum_by_byte_data", Case::SumByByteData),
@@ -69,6 +76,11 @@ pub const CASES: [(&str, Case); 35] = [
     ("fill_by_row_mut", Case::FillByRowMut),
     ("fill_by_rows_mut", Case::FillByRowsMut),
     ("fill_by_pixel_mut", Case::FillByPixelMut),
+    ("fill_by_unwrap", Case::FillByUnwrap),
+    ("ramp_by_pixel_mut", Case::RampByPixelMut),
+    ("ramp_by_unwrap", Case::RampByUnwrap),
+    ("change_by_unwrap", Case::ChangeByUnwrap),
+    ("mean_by_unwrap", Case::MeanByUnwrap),
     ("fill_by_pixels_mut", Case::FillByPixelsMut),
     ("pixel_mut_scattered", Case::PixelMutScattered),
     ("fill", Case::Fill),
@@ -90,6 +102,11 @@ pub fn work<T: Pixel>(case: Case, desk: &mut Desk<T>) -> Result<u64, BenchError>
         Case::FillByRowMut
         | Case::FillByRowsMut
         | Case::FillByPixelMut
+        | Case::FillByUnwrap
+        | Case::RampByPixelMut
+        | Case::RampByUnwrap
+        | Case::ChangeByUnwrap
+        | Case::MeanByUnwrap
         | Case::FillByPixelsMut
         | Case::PixelMutScattered
         | Case::Fill
@@ -113,6 +130,7 @@ fn read<T: Pixel>(case: Case, desk: &Desk<T>) -> u64 {
         Case::SumByPixel => reads::sum_by_pixel(luma),
         Case::SumByPixels => reads::sum_by_pixels(luma),
         Case::SumByPixelsBack => reads::sum_by_pixels_back(luma),
+        Case::SumByUnwrap => pixel_loops::sum_by_unwrap(luma),
         Case::PixelScattered => reads::sum_of_places(luma, desk.places.as_slice()),
         Case::CountDiffering => reads::count_differing(luma, other),
         Case::SumByByteData => reads::sum_by_byte_data(luma),
@@ -131,6 +149,11 @@ fn written<T: Pixel>(case: Case, desk: &mut Desk<T>) -> Result<u64, BenchError> 
         Case::FillByRowMut => writes::fill_by_row_mut(luma, value),
         Case::FillByRowsMut => writes::fill_by_rows_mut(luma, value),
         Case::FillByPixelMut => writes::fill_by_pixel_mut(luma, value),
+        Case::FillByUnwrap => pixel_loops::fill_by_unwrap(luma, value),
+        Case::RampByPixelMut => pixel_loops::ramp_by_pixel_mut(luma),
+        Case::RampByUnwrap => pixel_loops::ramp_by_unwrap(luma),
+        Case::ChangeByUnwrap => pixel_loops::change_by_unwrap(luma),
+        Case::MeanByUnwrap => pixel_loops::mean_by_unwrap(&desk.other.y_plane, luma),
         Case::FillByPixelsMut => writes::fill_by_pixels_mut(luma, value),
         Case::PixelMutScattered => writes::fill_places(luma, desk.places.as_slice(), value),
         Case::Fill => writes::fill_plane(luma, value),

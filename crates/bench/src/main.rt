@@ -12,6 +12,7 @@ mod cases;
 mod desk;
 mod error;
 mod pictures;
+mod pixel_loops;
 mod plan;
 mod reads;
 mod whole;

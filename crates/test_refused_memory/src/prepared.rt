@@ -71,7 +71,7 @@ fn seen_of(rt: &HostRuntime, name: &str, frame: &mut Frame<u16>) -> Option<()> {
         "read_frame_of_a_stream" => {
             let mut reader = Counted::new(FRAME.as_slice());
             let read = v_frame_y4m::read_frame(alloc, &mut reader, frame);
-            show(rt, &(read, reader.get_ref().len()));
+            show(rt, &(read, reader.inner().len()));
         }
         "replay" => show_replay(rt, frame, &calls(alloc)?),
         "same_tables_same_answers" => same_tables_same_answers(rt, frame)?,

@@ -225,6 +225,10 @@ impl<T> Plane<T> {
     /// iterator is dropped. When the borrow ends, each visible row holds the pixels that were last written to it; the border is
     /// unchanged. The contracts of [`RowsMut::next`] and [`RowsMut::next_back`] state which row of the plane each item is.
     ///
+    /// The law [`held_rows_are_the_table`](crate::laws::held_rows_are_the_table) joins the clauses `writes_back` and `written`:
+    /// the final rows of the iterator are the table of the plane. The law
+    /// [`held_items_make_the_table`](crate::laws::held_items_make_the_table) extends it to any list of draws.
+    ///
     /// Ports `Plane::rows_mut` of `v_frame` 0.7.0.
     pub fn rows_mut(&mut self) -> RowsMut<'_, T>
         ensures* writes_back { sem 𝓛 (LendsRows T.row self.entry result) }

@@ -16,7 +16,7 @@ ratio_of Yuv444 = Some (1, 1)
 ratio_of Monochrome = None
 
 -- A number is divisible by a ratio if some number times the ratio is equal to it. That number can
--- only be `a / ratio`.
+-- only be `a / ratio`, as the law `quotients_are_exact` states.
 abbrev pub has_quotient : ℕ → ℕ → Bool
 has_quotient a ratio = a / ratio * ratio == a
 

@@ -1,7 +1,7 @@
 //! The cases, and the work of each case.
 
 use crate::desk::Desk;
-use crate::{blocks, operations, reads, writes};
+use crate::{blocks, operations, pixel_loops, reads, writes};
 use v_frame::chroma::ChromaSubsampling;
 use v_frame::pixel::Pixel;
 
@@ -18,6 +18,8 @@ pub enum Case {
     SumByPixel,
     SumByPixels,
     SumByPixelsBack,
+    SumByUnwrap,
+    SumOfHidden,
     PixelScattered,
     CountDiffering,
     SumByByteData,
@@ -32,6 +34,11 @@ pub enum Case {
     FillByRowMut,
     FillByRowsMut,
     FillByPixelMut,
+    FillByUnwrap,
+    RampByPixelMut,
+    RampByUnwrap,
+    ChangeByUnwrap,
+    MeanByUnwrap,
     FillByPixelsMut,
     PixelMutScattered,
     Fill,
@@ -44,7 +51,7 @@ pub enum Case {
 }
 
 /// The names of the cases, in the order in which they are measured.
-pub const CASES: [(&str, Case); 39] = [
+pub const CASES: [(&str, Case); 46] = [
     ("build_mono", Case::BuildMono),
     ("build_420", Case::Build420),
     ("clone_plane", Case::ClonePlane),
@@ -55,6 +62,8 @@ pub const CASES: [(&str, Case); 39] = [
     ("sum_by_pixel", Case::SumByPixel),
     ("sum_by_pixels", Case::SumByPixels),
     ("sum_by_pixels_back", Case::SumByPixelsBack),
+    ("sum_by_unwrap", Case::SumByUnwrap),
+    ("sum_of_hidden_by_unwrap", Case::SumOfHidden),
     ("pixel_scattered", Case::PixelScattered),
     ("count_differing_by_pixels", Case::CountDiffering),
     ("sum_by_byte_data", Case::SumByByteData),
@@ -75,6 +84,11 @@ pub const CASES: [(&str, Case); 39] = [
     ("fill_by_row_mut", Case::FillByRowMut),
     ("fill_by_rows_mut", Case::FillByRowsMut),
     ("fill_by_pixel_mut", Case::FillByPixelMut),
+    ("fill_by_unwrap", Case::FillByUnwrap),
+    ("ramp_by_pixel_mut", Case::RampByPixelMut),
+    ("ramp_by_unwrap", Case::RampByUnwrap),
+    ("change_by_unwrap", Case::ChangeByUnwrap),
+    ("mean_by_unwrap", Case::MeanByUnwrap),
     ("fill_by_pixels_mut", Case::FillByPixelsMut),
     ("pixel_mut_scattered", Case::PixelMutScattered),
     ("fill", Case::Fill),
@@ -100,6 +114,8 @@ pub fn work<T: Pixel>(case: Case, desk: &mut Desk<T>) -> u64 {
         Case::SumByPixel => reads::sum_by_pixel(luma),
         Case::SumByPixels => reads::sum_by_pixels(luma),
         Case::SumByPixelsBack => reads::sum_by_pixels_back(luma),
+        Case::SumByUnwrap => pixel_loops::sum_by_unwrap(luma),
+        Case::SumOfHidden => pixel_loops::sum_of_hidden(luma),
         Case::PixelScattered => reads::sum_of_places(luma, &desk.places),
         Case::CountDiffering => reads::count_differing(luma, other),
         Case::SumByByteData => reads::sum_by_byte_data(luma),
@@ -125,6 +141,11 @@ fn write<T: Pixel>(case: Case, desk: &mut Desk<T>) {
         Case::FillByRowMut => writes::fill_by_row_mut(luma, value),
         Case::FillByRowsMut => writes::fill_by_rows_mut(luma, value),
         Case::FillByPixelMut => writes::fill_by_pixel_mut(luma, value),
+        Case::FillByUnwrap => pixel_loops::fill_by_unwrap(luma, value),
+        Case::RampByPixelMut => pixel_loops::ramp_by_pixel_mut(luma),
+        Case::RampByUnwrap => pixel_loops::ramp_by_unwrap(luma),
+        Case::ChangeByUnwrap => pixel_loops::change_by_unwrap(luma),
+        Case::MeanByUnwrap => pixel_loops::mean_by_unwrap(&desk.other.y_plane, luma),
         Case::FillByPixelsMut => writes::fill_by_pixels_mut(luma, value),
         Case::PixelMutScattered => writes::fill_places(luma, &desk.places, value),
         Case::Fill => operations::fill(luma, value),

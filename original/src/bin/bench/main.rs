@@ -10,6 +10,7 @@ mod cases;
 mod desk;
 #[cfg_attr(feature = "proved", path = "proved/operations.rs")]
 mod operations;
+mod pixel_loops;
 mod reads;
 mod writes;
 

@@ -77,6 +77,21 @@ pub struct FramePsnr {
 ///
 /// - [`MeasureError::UnsupportedBitDepth`] if pixels of type `T` cannot have this bit depth.
 /// - [`MeasureError::SizesDiffer`] if the sizes of the planes differ.
+///
+/// # Examples
+///
+/// ```
+/// use v_frame_proved::plane::{Plane, PlaneGeometry};
+/// use v_frame_proved::quality::{MeasureError, psnr};
+///
+/// let black = Plane::<u8>::new(PlaneGeometry::unpadded(2, 1, 1, 1).unwrap())?;
+/// let mut dark = black.clone();
+/// dark[0].fill(51);
+/// assert!((psnr(&black, &dark, 8)? - 13.9794).abs() < 1e-4);
+/// assert_eq!(psnr(&black, &black, 8)?, f64::INFINITY);
+/// assert!(matches!(psnr(&black, &dark, 10), Err(MeasureError::UnsupportedBitDepth { .. })));
+/// # Ok::<(), Box<dyn std::error::Error>>(())
+/// ```
 pub fn psnr<T: Pixel>(
     a: impl AsPlaneRef<Pixel = T>,
     b: impl AsPlaneRef<Pixel = T>,
@@ -95,6 +110,19 @@ pub fn psnr<T: Pixel>(
 /// - [`MeasureError::UnsupportedBitDepth`] if pixels of type `T` cannot have this bit depth.
 /// - [`MeasureError::SizesDiffer`] if the sizes of the planes differ.
 /// - [`MeasureError::TooSmall`] if the planes have fewer than 8 columns or rows.
+///
+/// # Examples
+///
+/// ```
+/// use v_frame_proved::plane::{Plane, PlaneGeometry};
+/// use v_frame_proved::quality::{MeasureError, ssim};
+///
+/// let gray = Plane::<u8>::new(PlaneGeometry::unpadded(8, 8, 1, 1).unwrap())?;
+/// assert_eq!(ssim(&gray, &gray, 8)?, 1.0);
+/// let small = Plane::<u8>::new(PlaneGeometry::unpadded(7, 8, 1, 1).unwrap())?;
+/// assert_eq!(ssim(&small, &small, 8), Err(MeasureError::TooSmall));
+/// # Ok::<(), Box<dyn std::error::Error>>(())
+/// ```
 pub fn ssim<T: Pixel>(
     a: impl AsPlaneRef<Pixel = T>,
     b: impl AsPlaneRef<Pixel = T>,
@@ -110,6 +138,20 @@ pub fn ssim<T: Pixel>(
 /// # Errors
 ///
 /// The errors of [`frame_psnr`].
+///
+/// # Examples
+///
+/// ```
+/// use v_frame_proved::chroma::ChromaSubsampling;
+/// use v_frame_proved::frame::FrameBuilder;
+/// use v_frame_proved::quality::frame_mean_squared_error;
+///
+/// let a = FrameBuilder::new(16, 16, ChromaSubsampling::Monochrome, 8).build::<u8>()?;
+/// let mut b = a.clone();
+/// b.y_plane[0][0] = 16;
+/// assert_eq!(frame_mean_squared_error(&a, &b)?.all, 1.0);
+/// # Ok::<(), Box<dyn std::error::Error>>(())
+/// ```
 pub fn frame_mean_squared_error<T: Pixel>(a: &Frame<T>, b: &Frame<T>) -> Result<FrameMeasure, MeasureError> {
     check_frames(a, b)?;
     Ok(measures::frame_mean_squared_error(a, b))
@@ -155,6 +197,21 @@ pub fn frame_psnr<T: Pixel>(a: &Frame<T>, b: &Frame<T>) -> Result<FramePsnr, Mea
 ///
 /// - The errors of [`frame_psnr`].
 /// - [`MeasureError::TooSmall`] if a plane has fewer than 8 columns or rows.
+///
+/// # Examples
+///
+/// ```
+/// use v_frame_proved::chroma::ChromaSubsampling;
+/// use v_frame_proved::frame::FrameBuilder;
+/// use v_frame_proved::quality::{MeasureError, frame_ssim};
+///
+/// let frame = FrameBuilder::new(16, 16, ChromaSubsampling::Yuv420, 8).build::<u8>()?;
+/// assert_eq!(frame_ssim(&frame, &frame)?.y, 1.0);
+/// let deep = FrameBuilder::new(16, 16, ChromaSubsampling::Yuv420, 9).build::<u16>()?;
+/// let deeper = FrameBuilder::new(16, 16, ChromaSubsampling::Yuv420, 10).build::<u16>()?;
+/// assert!(matches!(frame_ssim(&deep, &deeper), Err(MeasureError::DepthsDiffer { .. })));
+/// # Ok::<(), Box<dyn std::error::Error>>(())
+/// ```
 pub fn frame_ssim<T: Pixel>(a: &Frame<T>, b: &Frame<T>) -> Result<FrameMeasure, MeasureError> {
     check_frames(a, b)?;
     measures::frame_ssim(a, b).ok_or(MeasureError::TooSmall)

@@ -96,5 +96,5 @@ fn a_read_is_one_call(rt: HostRuntime) {
     check_read(rt, &mut reader, &mut buf, (Some(3), 1, &[1, 2, 3, 0]));
     check_read(rt, &mut reader, &mut [], (Some(0), 2, &[]));
     check_read(rt, &mut reader, &mut buf, (None, 3, &[1, 2, 3, 0]));
-    same(rt, (reader.failures(), reader.get_ref().left.len()), (1, 1));
+    same(rt, (reader.failures(), reader.inner().left.len()), (1, 1));
 }

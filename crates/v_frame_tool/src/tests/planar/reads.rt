@@ -66,7 +66,7 @@ fn check_pieces(rt: &impl Test, number: usize, case: &Piecewise, before: [u8; 6]
     let mut reader = Counted::new(pieces_of(*bytes, *most, *calls));
     let read = read_frame(rt.alloc(), &mut reader, &mut frame);
     must_show(rt, &read, *answer);
-    let told = (reader.failures(), reader.get_ref().left.len());
+    let told = (reader.failures(), reader.inner().left.len());
     same_at(rt, told, (*failures, *left), number);
     let shown = if read.is_ok() {
         [1, 2, 3, 4, 5, 6]

@@ -129,11 +129,11 @@ pub fn write_header<W: io::Write>(
 /// use v_frame_proved::planar::Counted;
 /// use v_frame_proved::y4m::{read_frame, read_header};
 ///
-/// let mut reader = Counted::new(&b"YUV4MPEG2 W2 H1 Cmono\nFRAME\nab"[..]);
+/// let mut reader = Counted::new(&b"YUV4MPEG2 W26 H1 Cmono\nFRAME\nabcdefghijklmnopqrstuvwxyz"[..]);
 /// let header = read_header(&mut reader)?;
 /// let mut frame = header.frame::<u8>(0)?;
 /// assert!(read_frame(&mut reader, &mut frame)?);
-/// assert_eq!(frame.y_plane[0], *b"ab");
+/// assert_eq!(frame.y_plane[0], *b"abcdefghijklmnopqrstuvwxyz");
 /// assert!(!read_frame(&mut reader, &mut frame)?); // the end of the stream
 /// # Ok::<(), Box<dyn std::error::Error>>(())
 /// ```
@@ -242,12 +242,13 @@ fn nothing_found<T: Pixel>(frame: &Frame<T>) -> Y4mError {
 /// use v_frame_proved::planar::Counted;
 /// use v_frame_proved::y4m::{Color, StreamHeader, write_frame, write_header};
 ///
-/// let header = StreamHeader::new(2, 1, Color::Mono);
-/// let frame = header.frame::<u8>(0)?;
+/// let header = StreamHeader::new(26, 1, Color::Mono);
+/// let mut frame = header.frame::<u8>(0)?;
+/// frame.y_plane.copy_from_slice(b"abcdefghijklmnopqrstuvwxyz")?;
 /// let mut writer = Counted::new(Vec::new());
 /// write_header(&mut writer, &header)?;
 /// write_frame(&mut writer, &frame)?;
-/// assert_eq!(writer.into_inner(), b"YUV4MPEG2 W2 H1 Cmono\nFRAME\n\0\0");
+/// assert_eq!(writer.into_inner(), b"YUV4MPEG2 W26 H1 Cmono\nFRAME\nabcdefghijklmnopqrstuvwxyz");
 /// # Ok::<(), Box<dyn std::error::Error>>(())
 /// ```
 #[inline]
