@@ -10,7 +10,7 @@ fn examples() -> Vec<&'static str> {
 #[test]
 fn examples_of_the_readme_are_whole_programs() {
     let examples = examples();
-    assert_eq!(examples.len(), 3);
+    assert_eq!(examples.len(), 4);
     for example in examples {
         assert!(example.starts_with("use "), "{example}");
         assert!(example.contains("\nfn main() -> Result<(), "), "{example}");
