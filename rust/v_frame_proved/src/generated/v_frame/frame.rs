@@ -190,7 +190,7 @@ impl<T: Pixel> Frame<T> {
 /// assert_eq!(none, Err(FrameError::UnsupportedBitDepth { found: 17 }));
 /// # Ok::<(), FrameError>(())
 /// ```
-#[derive(Debug, Clone, Copy, PartialEq, Eq)]
+#[derive(Debug, Clone, Copy, PartialEq, Eq, Hash)]
 pub struct FrameBuilder {
     width: usize,
     height: usize,

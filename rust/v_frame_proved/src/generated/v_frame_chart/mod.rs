@@ -5,6 +5,10 @@
 //! than columns of pixels, each column shows a band from the least value to the greatest and their mean as a line, so
 //! 30, 3,000 and 100,000 frames are readable. A value that is infinite or not a number leaves a gap.
 //!
+//! Values above about 1e307 may be drawn at a wrong height, at the top or at the bottom of the chart: the
+//! ends of an axis are multiples of its step, and an end, or the distance between both ends, may be above the
+//! largest `f64`.
+//!
 //! # Examples
 //!
 //! ```

@@ -5,7 +5,7 @@ use core::fmt;
 use crate::support::numbers::saturating_f64_to_u64;
 
 /// A place in the picture, in tenths of a pixel from its left or upper side.
-#[derive(Clone, Copy)]
+#[derive(Clone, Copy, Hash)]
 pub(crate) struct Place {
     tenths: u64,
 }

@@ -2,7 +2,7 @@
 //! The axis of numbers, by whole numbers.
 
 /// The leading digit of a step.
-#[derive(Clone, Copy)]
+#[derive(Clone, Copy, Hash)]
 pub(crate) enum Digit {
     One,
     Two,
@@ -10,14 +10,14 @@ pub(crate) enum Digit {
 }
 
 /// A power of ten: ten multiplied by itself, or one over it.
-#[derive(Clone, Copy)]
+#[derive(Clone, Copy, Hash)]
 pub(crate) enum Power {
     Times(u32),
     Over(u32),
 }
 
 /// The marks of an axis: so many steps of a digit times a power of ten, from a whole multiple of the power on.
-#[derive(Clone, Copy)]
+#[derive(Clone, Copy, Hash)]
 pub(crate) struct Scale {
     pub low: i64,
     pub digit: Digit,

@@ -14,7 +14,7 @@ use core::fmt;
 /// assert_eq!(Component::V.letter(), "V");
 /// assert_eq!(Component::U.to_string(), "U");
 /// ```
-#[derive(Debug, Clone, Copy, PartialEq, Eq)]
+#[derive(Debug, Clone, Copy, PartialEq, Eq, Hash)]
 pub enum Component {
     /// Luma.
     Y,

@@ -4,7 +4,7 @@
 use crate::generated::v_frame_formats::component::Component;
 
 /// A pixel that two frames show differently.
-#[derive(Debug, Clone, Copy, PartialEq, Eq)]
+#[derive(Debug, Clone, Copy, PartialEq, Eq, Hash)]
 pub struct PixelDifference {
     /// The plane that it is in.
     pub component: Component,

@@ -26,7 +26,7 @@ use crate::generated::v_frame_y4m::{Color, Depth};
 /// assert_eq!((deep.subsampling(), deep.bit_depth()), (ChromaSubsampling::Yuv422, 10));
 /// assert_eq!(VideoFormat::named("rgb24"), None);
 /// ```
-#[derive(Debug, Clone, Copy, PartialEq, Eq)]
+#[derive(Debug, Clone, Copy, PartialEq, Eq, Hash)]
 pub enum VideoFormat {
     /// The planes one after the other. Never [`Color::Unstated`].
     Planar(Color),

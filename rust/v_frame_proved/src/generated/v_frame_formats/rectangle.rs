@@ -12,7 +12,7 @@
 /// assert!(part.lies_in(3, 2));
 /// assert!(!part.lies_in(2, 2));
 /// ```
-#[derive(Debug, Clone, Copy, PartialEq, Eq)]
+#[derive(Debug, Clone, Copy, PartialEq, Eq, Hash)]
 pub struct Rectangle {
     /// Its first column, counted from 0.
     pub x: usize,

@@ -15,7 +15,7 @@
 /// let found = PixelDifference { component: Component::Y, x: 1, y: 0, first: 98, second: 100 };
 /// assert_eq!(found.component.letter(), "Y");
 /// ```
-#[derive(Debug, Clone, Copy, PartialEq, Eq)]
+#[derive(Debug, Clone, Copy, PartialEq, Eq, Hash)]
 pub struct PlaneSums {
     /// That of luma.
     pub y: u128,

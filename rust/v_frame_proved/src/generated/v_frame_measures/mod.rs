@@ -9,9 +9,9 @@
 //!
 //! MS-SSIM, PSNR-HVS and CIEDE2000 are not included, because no reference was available to compare their digits with.
 //!
-//! The functions of this module do not check the bit depth. At 0 bits, [`psnr`] is minus infinity or NaN, and
-//! [`ssim`] may be `Some(NaN)`. A depth above 16 counts as 16. The functions of [`quality`](crate::quality)
-//! and [`VideoFrame`](crate::y4m::VideoFrame) check the depth first.
+//! The functions of this module do not check the bit depth. At 0 bits, [`psnr`] is minus infinity or NaN. At
+//! 0 to 3 bits, [`ssim`] may be `Some(NaN)`. A depth above 16 counts as 16. The functions of
+//! [`quality`](crate::quality) and [`VideoFrame`](crate::y4m::VideoFrame) check the depth first.
 //!
 //! # Examples
 //!

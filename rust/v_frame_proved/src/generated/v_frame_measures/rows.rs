@@ -65,7 +65,8 @@ pub fn mean_squared_error<T: Pixel>(a: impl AsRowsRef<Pixel = T>, b: impl AsRows
 /// above 16 counts as 16.
 ///
 /// The result is the mean over windows of 8 by 8 pixels at every fourth column and row. Returns `None` if and only if the width
-/// or the height is below 8.
+/// or the height is below 8. If `bit_depth` is from 0 to 3, the result may be NaN, as
+/// [`ssim`](crate::measures::ssim) of planes describes.
 ///
 /// # Panics
 ///

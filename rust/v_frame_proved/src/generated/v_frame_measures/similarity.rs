@@ -30,6 +30,9 @@ use window::{SsimConstants, similarity};
 /// Returns `None` if and only if the width or the height is below 8, because no window fits. For these sizes FFmpeg divides by
 /// zero or prints 0.
 ///
+/// If `bit_depth` is from 0 to 3 and a window is black in both planes, or if `bit_depth` is 0 and a window has only one value in
+/// each plane, the result is NaN: the constants that keep divisors away from zero are rounded to integers, which are 0 then.
+///
 /// # Panics
 ///
 /// Panics

@@ -2,10 +2,10 @@
 //! Operations that write the visible pixels of a plane: map each pixel, combine it with a pixel of another plane, fill, or copy
 //! a rectangle. The padding stays unchanged.
 
-use crate::views::AsPlaneRef;
+use crate::views::{AsPlaneRef, AsRowsMut};
 use crate::generated::v_frame_ops::rows;
 use crate::generated::v_frame::pixel::Pixel;
-use crate::generated::v_frame::plane::{Plane, VisibleMut, copy_rows};
+use crate::generated::v_frame::plane::{VisibleMut, copy_rows};
 
 /// Replaces each visible pixel of `plane` by the result of `change` for it.
 ///
@@ -25,7 +25,7 @@ use crate::generated::v_frame::plane::{Plane, VisibleMut, copy_rows};
 /// # Ok::<(), v_frame_proved::AllocError>(())
 /// ```
 #[inline]
-pub fn map_pixels<T: Pixel, F: Fn(T) -> T>(plane: &mut Plane<T>, change: F) {
+pub fn map_pixels<T: Pixel, F: Fn(T) -> T>(plane: &mut impl AsRowsMut<Pixel = T>, change: F) {
     let VisibleMut {
         entries,
         width,
@@ -65,7 +65,7 @@ pub fn map_pixels<T: Pixel, F: Fn(T) -> T>(plane: &mut Plane<T>, change: F) {
 #[track_caller]
 #[inline]
 pub fn combine_pixels<T: Pixel, F: Fn(T, T) -> T>(
-    plane: &mut Plane<T>,
+    plane: &mut impl AsRowsMut<Pixel = T>,
     other: impl AsPlaneRef<Pixel = T>,
     combine: F,
 ) {
@@ -103,7 +103,7 @@ pub fn combine_pixels<T: Pixel, F: Fn(T, T) -> T>(
 /// # Ok::<(), v_frame_proved::AllocError>(())
 /// ```
 #[inline]
-pub fn fill<T: Pixel>(plane: &mut Plane<T>, pixel: T) {
+pub fn fill<T: Pixel>(plane: &mut impl AsRowsMut<Pixel = T>, pixel: T) {
     let VisibleMut {
         entries,
         width,
@@ -139,7 +139,7 @@ pub fn fill<T: Pixel>(plane: &mut Plane<T>, pixel: T) {
 /// ```
 #[track_caller]
 #[inline]
-pub fn copy_region<T: Pixel>(source: impl AsPlaneRef<Pixel = T>, target: &mut Plane<T>, x: usize, y: usize) {
+pub fn copy_region<T: Pixel>(source: impl AsPlaneRef<Pixel = T>, target: &mut impl AsRowsMut<Pixel = T>, x: usize, y: usize) {
     let source = &source.as_plane_ref();
     assert!(
         x as u128 + source.width() as u128 <= target.width() as u128,

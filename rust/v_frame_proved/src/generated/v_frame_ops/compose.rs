@@ -2,12 +2,12 @@
 //! Operations that combine two planes: blend one over a rectangle of another, evenly or by a mask, copy one into another with
 //! clipping, or compute an amplified difference. The padding stays unchanged.
 
-use crate::views::AsPlaneRef;
+use crate::views::{AsPlaneRef, AsRowsMut};
 use crate::generated::v_frame_ops::change::combine_pixels;
 use crate::generated::v_frame_ops::rows;
 use crate::generated::v_frame_ops::rows::{largest_value, pixel_difference};
 use crate::generated::v_frame::pixel::Pixel;
-use crate::generated::v_frame::plane::{Plane, VisibleMut};
+use crate::generated::v_frame::plane::VisibleMut;
 
 /// Blends all visible pixels of `source` over a rectangle of `target` with one weight. The top left pixel of `source` is
 /// blended at column `x` of row `y`.
@@ -44,7 +44,7 @@ use crate::generated::v_frame::plane::{Plane, VisibleMut};
 #[inline]
 pub fn blend_region<T: Pixel>(
     source: impl AsPlaneRef<Pixel = T>,
-    target: &mut Plane<T>,
+    target: &mut impl AsRowsMut<Pixel = T>,
     x: usize,
     y: usize,
     weight: u16,
@@ -107,7 +107,7 @@ pub fn blend_region<T: Pixel>(
 pub fn blend_region_with_mask<T: Pixel>(
     source: impl AsPlaneRef<Pixel = T>,
     mask: impl AsPlaneRef<Pixel = u8>,
-    target: &mut Plane<T>,
+    target: &mut impl AsRowsMut<Pixel = T>,
     x: usize,
     y: usize,
 ) {
@@ -160,7 +160,7 @@ pub fn blend_region_with_mask<T: Pixel>(
 #[inline]
 pub fn copy_region_clipped<T: Pixel>(
     source: impl AsPlaneRef<Pixel = T>,
-    target: &mut Plane<T>,
+    target: &mut impl AsRowsMut<Pixel = T>,
     x: isize,
     y: isize,
 ) {
@@ -206,7 +206,7 @@ pub fn copy_region_clipped<T: Pixel>(
 /// ```
 #[track_caller]
 #[inline]
-pub fn difference<T: Pixel>(other: impl AsPlaneRef<Pixel = T>, plane: &mut Plane<T>, gain: u16, depth: u8) {
+pub fn difference<T: Pixel>(other: impl AsPlaneRef<Pixel = T>, plane: &mut impl AsRowsMut<Pixel = T>, gain: u16, depth: u8) {
     let other = &other.as_plane_ref();
     assert!(
         other.width() == plane.width(),

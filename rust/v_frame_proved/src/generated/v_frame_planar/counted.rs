@@ -5,7 +5,7 @@ use std::io;
 use crate::generated::v_frame_bytes::{SendError, send};
 
 /// Why [`Counted::write_all`] failed.
-#[derive(Debug, PartialEq, Eq, Clone, Copy)]
+#[derive(Debug, PartialEq, Eq, Clone, Copy, Hash)]
 #[non_exhaustive]
 pub enum WriteFault {
     /// A write failed.

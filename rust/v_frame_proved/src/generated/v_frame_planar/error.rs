@@ -5,7 +5,7 @@ use crate::generated::v_frame_planar::counted::WriteFault;
 use crate::support::AllocError;
 
 /// Why [`read_frame`](crate::planar::read_frame) or [`write_frame`](crate::planar::write_frame) failed.
-#[derive(Debug, PartialEq, Eq, Clone, Copy)]
+#[derive(Debug, PartialEq, Eq, Clone, Copy, Hash)]
 #[non_exhaustive]
 pub enum PlanarError {
     /// The reader reached its end inside a frame.

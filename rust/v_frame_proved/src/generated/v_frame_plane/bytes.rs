@@ -15,9 +15,9 @@ use crate::generated::v_frame_raster::pixel::Pixel;
 /// `v_frame` 0.7.0 returns.
 pub struct ByteData<'a, T: Pixel> {
     // The pixel whose low byte was yielded, the pixels that were not begun, and the pixel whose high byte was yielded.
-    front: Option<T>,
-    pixels: Pixels<'a, T>,
-    back: Option<T>,
+    pub(crate) front: Option<T>,
+    pub(crate) pixels: Pixels<'a, T>,
+    pub(crate) back: Option<T>,
 }
 
 impl<'a, T: Pixel> ByteData<'a, T> {
@@ -78,6 +78,27 @@ impl<'a, T: Pixel> Iterator for ByteData<'a, T> {
         let len = self.len();
         (len, Some(len))
     }
+
+    #[inline]
+    fn nth(&mut self, n: usize) -> Option<Self::Item> {
+        self.skip_front(n);
+        self.next()
+    }
+
+    #[inline]
+    fn fold<A, F: FnMut(A, Self::Item) -> A>(self, first: A, call: F) -> A {
+        self.fold_front(first, call)
+    }
+
+    #[inline]
+    fn count(self) -> usize {
+        self.len()
+    }
+
+    #[inline]
+    fn last(mut self) -> Option<Self::Item> {
+        self.next_back()
+    }
 }
 
 impl<'a, T: Pixel> DoubleEndedIterator for ByteData<'a, T> {
@@ -90,6 +111,17 @@ impl<'a, T: Pixel> DoubleEndedIterator for ByteData<'a, T> {
             Some(pixel) => Some(begin_back(pixel, &mut self.back)),
             None => Some(self.front.take()?.pixel_le_byte(1)),
         }
+    }
+
+    #[inline]
+    fn nth_back(&mut self, n: usize) -> Option<Self::Item> {
+        self.skip_back(n);
+        self.next_back()
+    }
+
+    #[inline]
+    fn rfold<A, F: FnMut(A, Self::Item) -> A>(self, first: A, call: F) -> A {
+        self.fold_back(first, call)
     }
 }
 

@@ -9,11 +9,25 @@ use core::{fmt, mem};
 /// A double-ended iterator over the visible pixels of a plane, row by row from the top.
 ///
 /// The iterator replaces the unnamed one that `Plane::pixels` of `v_frame` 0.7.0 returns.
+///
+/// # Examples
+///
+/// ```
+/// use v_frame_proved::plane::Plane;
+///
+/// let plane = Plane::from_slice(3, 2, &[1_u8, 2, 3, 4, 5, 6])?;
+/// // `nth`, `nth_back`, `count` and `last` compute positions. They do not read the pixels in between.
+/// assert_eq!(plane.pixels().nth(4), Some(5));
+/// assert_eq!(plane.pixels().nth_back(4), Some(2));
+/// // `sum`, `max` and `for_each` call `fold`, which has one loop for each row.
+/// assert_eq!(plane.pixels().map(u32::from).sum::<u32>(), 21);
+/// # Ok::<(), v_frame_proved::lists::ListError>(())
+/// ```
 pub struct Pixels<'a, T> {
     // The row that was begun from the front, the rows that were not begun, and the row that was begun from the back.
-    front: &'a [T],
-    rows: Rows<'a, T>,
-    back: &'a [T],
+    pub(crate) front: &'a [T],
+    pub(crate) rows: Rows<'a, T>,
+    pub(crate) back: &'a [T],
 }
 
 impl<'a, T> Pixels<'a, T> {
@@ -61,6 +75,27 @@ impl<'a, T: Copy> Iterator for Pixels<'a, T> {
         let len = self.len();
         (len, Some(len))
     }
+
+    #[inline]
+    fn nth(&mut self, n: usize) -> Option<Self::Item> {
+        self.skip_front(n);
+        self.next()
+    }
+
+    #[inline]
+    fn fold<A, F: FnMut(A, Self::Item) -> A>(self, first: A, call: F) -> A {
+        self.fold_front(first, call)
+    }
+
+    #[inline]
+    fn count(self) -> usize {
+        self.len()
+    }
+
+    #[inline]
+    fn last(mut self) -> Option<Self::Item> {
+        self.next_back()
+    }
 }
 
 impl<'a, T: Copy> DoubleEndedIterator for Pixels<'a, T> {
@@ -77,6 +112,17 @@ impl<'a, T: Copy> DoubleEndedIterator for Pixels<'a, T> {
         let (pixel, rest) = row.split_last()?;
         self.back = rest;
         Some(*pixel)
+    }
+
+    #[inline]
+    fn nth_back(&mut self, n: usize) -> Option<Self::Item> {
+        self.skip_back(n);
+        self.next_back()
+    }
+
+    #[inline]
+    fn rfold<A, F: FnMut(A, Self::Item) -> A>(self, first: A, call: F) -> A {
+        self.fold_back(first, call)
     }
 }
 

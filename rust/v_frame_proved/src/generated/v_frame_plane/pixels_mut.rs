@@ -27,9 +27,9 @@ use core::mem;
 #[derive(Debug)]
 pub struct PixelsMut<'a, T> {
     // The row that was begun from the front, the rows that were not begun, and the row that was begun from the back.
-    front: &'a mut [T],
-    rows: RowsMut<'a, T>,
-    back: &'a mut [T],
+    pub(crate) front: &'a mut [T],
+    pub(crate) rows: RowsMut<'a, T>,
+    pub(crate) back: &'a mut [T],
 }
 
 impl<'a, T> PixelsMut<'a, T> {
@@ -109,12 +109,44 @@ impl<'a, T> Iterator for PixelsMut<'a, T> {
         let len = self.len();
         (len, Some(len))
     }
+
+    #[inline]
+    fn nth(&mut self, n: usize) -> Option<Self::Item> {
+        self.skip_front(n);
+        self.next()
+    }
+
+    #[inline]
+    fn fold<A, F: FnMut(A, Self::Item) -> A>(self, first: A, call: F) -> A {
+        self.fold_front(first, call)
+    }
+
+    #[inline]
+    fn count(self) -> usize {
+        self.len()
+    }
+
+    #[inline]
+    fn last(mut self) -> Option<Self::Item> {
+        self.next_back()
+    }
 }
 
 impl<'a, T> DoubleEndedIterator for PixelsMut<'a, T> {
     #[inline]
     fn next_back(&mut self) -> Option<&'a mut T> {
         PixelsMut::next_back(self)
+    }
+
+    #[inline]
+    fn nth_back(&mut self, n: usize) -> Option<Self::Item> {
+        self.skip_back(n);
+        self.next_back()
+    }
+
+    #[inline]
+    fn rfold<A, F: FnMut(A, Self::Item) -> A>(self, first: A, call: F) -> A {
+        self.fold_back(first, call)
     }
 }
 

@@ -128,8 +128,8 @@ pub use visible::VisibleMut;
 /// # Ok::<(), v_frame_proved::AllocError>(())
 /// ```
 pub struct Plane<T> {
-    geometry: PlaneGeometry,
-    buffer: AlignedData<T>,
+    pub(crate) geometry: PlaneGeometry,
+    pub(crate) buffer: AlignedData<T>,
 }
 
 impl<T> Plane<T> {

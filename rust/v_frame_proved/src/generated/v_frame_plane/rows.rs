@@ -27,12 +27,12 @@ use core::iter::FusedIterator;
 /// ```
 pub struct Rows<'a, T> {
     // The next row begins at index `start` of `rest`.
-    rest: &'a [T],
-    start: usize,
-    width: usize,
+    pub(crate) rest: &'a [T],
+    pub(crate) start: usize,
+    pub(crate) width: usize,
     // The number of entries between the end of a row and the start of the next.
-    gap: usize,
-    count: usize,
+    pub(crate) gap: usize,
+    pub(crate) count: usize,
 }
 
 impl<'a, T> Rows<'a, T> {
@@ -88,6 +88,27 @@ impl<'a, T> Iterator for Rows<'a, T> {
     fn size_hint(&self) -> (usize, Option<usize>) {
         (self.count, Some(self.count))
     }
+
+    #[inline]
+    fn nth(&mut self, n: usize) -> Option<Self::Item> {
+        self.skip_front(n);
+        self.next()
+    }
+
+    #[inline]
+    fn fold<A, F: FnMut(A, Self::Item) -> A>(self, first: A, call: F) -> A {
+        self.fold_front(first, call)
+    }
+
+    #[inline]
+    fn count(self) -> usize {
+        self.len()
+    }
+
+    #[inline]
+    fn last(mut self) -> Option<Self::Item> {
+        self.next_back()
+    }
 }
 
 impl<'a, T> DoubleEndedIterator for Rows<'a, T> {
@@ -102,6 +123,17 @@ impl<'a, T> DoubleEndedIterator for Rows<'a, T> {
             .split_at(self.start + self.count * (self.width + self.gap));
         self.rest = rest;
         Some(&last[..self.width])
+    }
+
+    #[inline]
+    fn nth_back(&mut self, n: usize) -> Option<Self::Item> {
+        self.skip_back(n);
+        self.next_back()
+    }
+
+    #[inline]
+    fn rfold<A, F: FnMut(A, Self::Item) -> A>(self, first: A, call: F) -> A {
+        self.fold_back(first, call)
     }
 }
 

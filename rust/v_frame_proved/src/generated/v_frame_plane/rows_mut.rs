@@ -28,12 +28,12 @@ use crate::generated::v_frame_raster::geometry::PlaneGeometry;
 #[derive(Debug)]
 pub struct RowsMut<'a, T> {
     // The next row begins at index `start` of `rest`.
-    rest: &'a mut [T],
-    start: usize,
-    width: usize,
+    pub(crate) rest: &'a mut [T],
+    pub(crate) start: usize,
+    pub(crate) width: usize,
     // The number of entries between the end of a row and the start of the next.
-    gap: usize,
-    count: usize,
+    pub(crate) gap: usize,
+    pub(crate) count: usize,
 }
 
 impl<'a, T> RowsMut<'a, T> {
@@ -130,12 +130,44 @@ impl<'a, T> Iterator for RowsMut<'a, T> {
     fn size_hint(&self) -> (usize, Option<usize>) {
         (self.count, Some(self.count))
     }
+
+    #[inline]
+    fn nth(&mut self, n: usize) -> Option<Self::Item> {
+        self.skip_front(n);
+        self.next()
+    }
+
+    #[inline]
+    fn fold<A, F: FnMut(A, Self::Item) -> A>(self, first: A, call: F) -> A {
+        self.fold_front(first, call)
+    }
+
+    #[inline]
+    fn count(self) -> usize {
+        self.len()
+    }
+
+    #[inline]
+    fn last(mut self) -> Option<Self::Item> {
+        self.next_back()
+    }
 }
 
 impl<'a, T> DoubleEndedIterator for RowsMut<'a, T> {
     #[inline]
     fn next_back(&mut self) -> Option<&'a mut [T]> {
         RowsMut::next_back(self)
+    }
+
+    #[inline]
+    fn nth_back(&mut self, n: usize) -> Option<Self::Item> {
+        self.skip_back(n);
+        self.next_back()
+    }
+
+    #[inline]
+    fn rfold<A, F: FnMut(A, Self::Item) -> A>(self, first: A, call: F) -> A {
+        self.fold_back(first, call)
     }
 }
 

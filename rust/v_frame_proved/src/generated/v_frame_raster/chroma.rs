@@ -31,7 +31,7 @@ use core::num::NonZeroU8;
 /// assert!(format.has_chroma());
 /// assert!(!ChromaSubsampling::Monochrome.has_chroma());
 /// ```
-#[derive(Debug, Clone, Copy, PartialEq, Eq)]
+#[derive(Debug, Clone, Copy, PartialEq, Eq, Hash)]
 pub enum ChromaSubsampling {
     /// Chroma has half the width and half the height of luma.
     Yuv420,

@@ -16,7 +16,7 @@ use crate::generated::v_frame_raster::chroma::ChromaSubsampling;
 /// let odd = PlaneGeometry::unpadded(3, 2, 1, 1).unwrap();
 /// assert_eq!(odd.for_subsampling(ChromaSubsampling::Yuv420), Err(SubsamplingError));
 /// ```
-#[derive(Debug, Clone, Copy, PartialEq, Eq)]
+#[derive(Debug, Clone, Copy, PartialEq, Eq, Hash)]
 pub struct SubsamplingError;
 
 /// The layout of a plane: its visible size, the padding on each side, and its subsampling ratios relative to luma.
@@ -51,7 +51,7 @@ pub struct SubsamplingError;
 /// assert_eq!(geometry.region_with_border(-2, -4, 6, 12), Some(geometry.whole_buffer()));
 /// assert_eq!(geometry.whole_buffer(), PlaneGeometry::unpadded(6, 12, 1, 1).unwrap());
 /// ```
-#[derive(Debug, Clone, Copy, PartialEq, Eq)]
+#[derive(Debug, Clone, Copy, PartialEq, Eq, Hash)]
 pub struct PlaneGeometry {
     width: usize,
     height: usize,

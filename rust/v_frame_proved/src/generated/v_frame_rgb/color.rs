@@ -11,7 +11,7 @@
 /// let color = RgbMatrix::new(Standard::Bt709, ColorRange::Full).color(128, 128, 128);
 /// assert_eq!(color, Color { red: 128, green: 128, blue: 128 });
 /// ```
-#[derive(Debug, Clone, Copy, PartialEq, Eq)]
+#[derive(Debug, Clone, Copy, PartialEq, Eq, Hash)]
 pub struct Color {
     /// The red component.
     pub red: u8,
@@ -79,19 +79,19 @@ pub trait ColorOrder: sealed::Sealed {
 }
 
 /// Three bytes: red, green, blue.
-#[derive(Debug, Clone, Copy, PartialEq, Eq)]
+#[derive(Debug, Clone, Copy, PartialEq, Eq, Hash)]
 pub struct Rgb;
 
 /// Three bytes: blue, green, red.
-#[derive(Debug, Clone, Copy, PartialEq, Eq)]
+#[derive(Debug, Clone, Copy, PartialEq, Eq, Hash)]
 pub struct Bgr;
 
 /// Four bytes: red, green, blue, alpha. The alpha byte is written as 255 (opaque) and ignored when read.
-#[derive(Debug, Clone, Copy, PartialEq, Eq)]
+#[derive(Debug, Clone, Copy, PartialEq, Eq, Hash)]
 pub struct Rgba;
 
 /// Four bytes: blue, green, red, alpha. The alpha byte is written as 255 (opaque) and ignored when read.
-#[derive(Debug, Clone, Copy, PartialEq, Eq)]
+#[derive(Debug, Clone, Copy, PartialEq, Eq, Hash)]
 pub struct Bgra;
 
 impl ColorOrder for Rgb {

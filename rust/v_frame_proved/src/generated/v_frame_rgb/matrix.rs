@@ -17,7 +17,7 @@ use crate::generated::v_frame_rgb::standard::{ColorRange, Standard};
 /// let matrix = RgbMatrix::new(Standard::Bt2020, ColorRange::Limited);
 /// assert_eq!(matrix.color(16, 128, 128), Color { red: 0, green: 0, blue: 0 });
 /// ```
-#[derive(Debug, Clone, Copy, PartialEq, Eq)]
+#[derive(Debug, Clone, Copy, PartialEq, Eq, Hash)]
 pub struct RgbMatrix {
     /// The luma sample of black: 16 in limited range, 0 in full range.
     pub black: u8,
@@ -47,7 +47,7 @@ pub struct RgbMatrix {
 /// let white = Color { red: 255, green: 255, blue: 255 };
 /// assert_eq!(Luma::sample(matrix, white), 235);
 /// ```
-#[derive(Debug, Clone, Copy, PartialEq, Eq)]
+#[derive(Debug, Clone, Copy, PartialEq, Eq, Hash)]
 pub struct YuvMatrix {
     /// The luma sample of black: 16 in limited range, 0 in full range.
     pub black: u8,

@@ -42,15 +42,15 @@ pub trait Channel: sealed::Sealed {
 }
 
 /// Luma (Y').
-#[derive(Debug, Clone, Copy, PartialEq, Eq)]
+#[derive(Debug, Clone, Copy, PartialEq, Eq, Hash)]
 pub struct Luma;
 
 /// Cb, the blue difference.
-#[derive(Debug, Clone, Copy, PartialEq, Eq)]
+#[derive(Debug, Clone, Copy, PartialEq, Eq, Hash)]
 pub struct ChromaU;
 
 /// Cr, the red difference.
-#[derive(Debug, Clone, Copy, PartialEq, Eq)]
+#[derive(Debug, Clone, Copy, PartialEq, Eq, Hash)]
 pub struct ChromaV;
 
 impl Channel for Luma {

@@ -13,7 +13,7 @@
 /// let luma_by = |standard| Luma::sample(YuvMatrix::new(standard, ColorRange::Full), green);
 /// assert_eq!((luma_by(Standard::Bt601), luma_by(Standard::Bt709)), (150, 182));
 /// ```
-#[derive(Debug, Clone, Copy, PartialEq, Eq)]
+#[derive(Debug, Clone, Copy, PartialEq, Eq, Hash)]
 pub enum Standard {
     /// ITU-R BT.601-7, for standard definition: Kr = 0.299 and Kb = 0.114.
     Bt601,
@@ -34,7 +34,7 @@ pub enum Standard {
 /// let luma_in = |range| Luma::sample(YuvMatrix::new(Standard::Bt709, range), white);
 /// assert_eq!((luma_in(ColorRange::Limited), luma_in(ColorRange::Full)), (235, 255));
 /// ```
-#[derive(Debug, Clone, Copy, PartialEq, Eq)]
+#[derive(Debug, Clone, Copy, PartialEq, Eq, Hash)]
 pub enum ColorRange {
     /// Limited range: at 8 bits, luma from 16 to 235 and chroma from 16 to 240. Broadcasts and most video files use it.
     Limited,

@@ -5,7 +5,7 @@ use crate::generated::v_frame_planar::PlanarError;
 
 /// Why [`read_frame`](crate::semi_planar::read_frame) or [`write_frame`](crate::semi_planar::write_frame) failed. After any error except
 /// [`Planar`](Self::Planar), nothing was read or written.
-#[derive(Debug, PartialEq, Eq, Clone, Copy)]
+#[derive(Debug, PartialEq, Eq, Clone, Copy, Hash)]
 #[non_exhaustive]
 pub enum SemiPlanarError {
     /// The bit depth or the pixel type of the frame differs from that of the layout.

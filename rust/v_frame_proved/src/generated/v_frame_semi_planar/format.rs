@@ -45,7 +45,7 @@ use crate::generated::v_frame_planar::subsample_ratio_or_one;
 /// assert_eq!(refused, Err(SemiPlanarError::BitDepth));
 /// # Ok::<(), Box<dyn std::error::Error>>(())
 /// ```
-#[derive(Debug, Clone, Copy, PartialEq, Eq)]
+#[derive(Debug, Clone, Copy, PartialEq, Eq, Hash)]
 pub enum SemiPlanarFormat {
     /// 8-bit samples, chroma at half the width and half the height, U first.
     Nv12,

@@ -9,7 +9,7 @@ use crate::generated::v_frame::plane::Plane;
 use crate::generated::v_frame_formats::{PixelDifference, PlaneSums};
 
 /// Selects the frames that a comparison reads.
-#[derive(Debug, Clone, Copy, PartialEq, Eq)]
+#[derive(Debug, Clone, Copy, PartialEq, Eq, Hash)]
 pub struct CompareOptions {
     /// The number of frames of the first stream to skip before the comparison.
     pub skip_first: u64,
@@ -23,7 +23,7 @@ pub struct CompareOptions {
 }
 
 /// How much two streams differ.
-#[derive(Debug, Clone, Copy, PartialEq, Eq)]
+#[derive(Debug, Clone, Copy, PartialEq, Eq, Hash)]
 pub struct Comparison {
     /// The number of frame pairs that were compared.
     pub frames: u64,

@@ -17,7 +17,7 @@ use crate::generated::v_frame_y4m::Y4mError;
 /// let error = Source::y4m(Place::Second, &b"RIFF"[..]).err().unwrap();
 /// assert_eq!((error.place, error.frames), (Place::Second, 0));
 /// ```
-#[derive(Debug, Clone, PartialEq, Eq)]
+#[derive(Debug, Clone, PartialEq, Eq, Hash)]
 pub struct StreamError {
     /// The stream in which the error happened.
     pub place: Place,
@@ -75,7 +75,7 @@ impl fmt::Display for StreamError {
 }
 
 /// What went wrong with a stream.
-#[derive(Debug, Clone, PartialEq, Eq)]
+#[derive(Debug, Clone, PartialEq, Eq, Hash)]
 #[non_exhaustive]
 pub enum Problem {
     /// The header or the next frame could not be read or written.

@@ -23,7 +23,7 @@ pub const MAX_PIXELS: usize = 33_177_600;
 /// let options = CopyOptions { skip: 10, crop: Some(part), ..CopyOptions::new() };
 /// assert_eq!(options.count, None); // all frames after these
 /// ```
-#[derive(Debug, Clone, Copy, PartialEq, Eq)]
+#[derive(Debug, Clone, Copy, PartialEq, Eq, Hash)]
 pub struct CopyOptions {
     /// The number of frames to skip at the beginning of the stream.
     pub skip: u64,

@@ -5,7 +5,7 @@
 pub(crate) const BLOCK: usize = 16384;
 
 /// How a stream stores its frames.
-#[derive(Debug, Clone, Copy, PartialEq, Eq)]
+#[derive(Debug, Clone, Copy, PartialEq, Eq, Hash)]
 pub enum Container {
     /// YUV4MPEG2: a header line, and a line in front of each frame.
     Y4m,
@@ -14,7 +14,7 @@ pub enum Container {
 }
 
 /// Identifies one of the streams that a call works on.
-#[derive(Debug, Clone, Copy, PartialEq, Eq)]
+#[derive(Debug, Clone, Copy, PartialEq, Eq, Hash)]
 pub enum Place {
     /// The first input.
     First,

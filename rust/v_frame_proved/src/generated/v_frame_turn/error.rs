@@ -16,7 +16,7 @@
 /// assert_eq!(frames::check_turn(&frame, &frame, Turn::Rotate90), Err(TurnError::UnevenSubsampling));
 /// # Ok::<(), v_frame_proved::frame::FrameError>(())
 /// ```
-#[derive(Debug, PartialEq, Eq, Clone, Copy)]
+#[derive(Debug, PartialEq, Eq, Clone, Copy, Hash)]
 #[non_exhaustive]
 pub enum TurnError {
     /// Rows would become columns, but the chroma is not subsampled by the same ratio in both directions, as in 4:2:2 and 4:1:1.

@@ -4,7 +4,7 @@
 use crate::generated::v_frame::chroma::ChromaSubsampling;
 
 /// A bit depth above 8.
-#[derive(Debug, Clone, Copy, PartialEq, Eq)]
+#[derive(Debug, Clone, Copy, PartialEq, Eq, Hash)]
 pub enum Depth {
     /// 9 bits.
     Nine,
@@ -65,7 +65,7 @@ impl Depth {
 }
 
 /// The position of the chroma samples of 8-bit 4:2:0, relative to the luma samples.
-#[derive(Debug, Clone, Copy, PartialEq, Eq)]
+#[derive(Debug, Clone, Copy, PartialEq, Eq, Hash)]
 pub enum ChromaSiting {
     /// In the center of four luma samples, as in JPEG and MPEG-1.
     Center,
@@ -96,7 +96,7 @@ pub enum ChromaSiting {
 /// assert_eq!(Ratio { numerator: 25, denominator: 1 }.text()?, "25:1");
 /// # Ok::<(), v_frame_proved::AllocError>(())
 /// ```
-#[derive(Debug, Clone, Copy, PartialEq, Eq)]
+#[derive(Debug, Clone, Copy, PartialEq, Eq, Hash)]
 pub enum Color {
     /// The header has no parameter `C`, which means 4:2:0 as in JPEG.
     Unstated,

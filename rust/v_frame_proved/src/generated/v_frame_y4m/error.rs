@@ -20,7 +20,7 @@ use crate::generated::v_frame_planar::{PlanarError, WriteFault};
 /// assert_eq!(Y4mError::from(unknown.clone()), Y4mError::Header(unknown));
 /// # Ok::<(), v_frame_proved::AllocError>(())
 /// ```
-#[derive(Debug, PartialEq, Eq, Clone)]
+#[derive(Debug, PartialEq, Eq, Clone, Hash)]
 #[non_exhaustive]
 pub enum HeaderError {
     /// The line does not begin with `YUV4MPEG2`.
@@ -66,7 +66,7 @@ impl From<AllocError> for HeaderError {
 }
 
 /// Why a call on a YUV4MPEG2 stream failed.
-#[derive(Debug, PartialEq, Eq, Clone)]
+#[derive(Debug, PartialEq, Eq, Clone, Hash)]
 #[non_exhaustive]
 pub enum Y4mError {
     /// The header line was rejected.

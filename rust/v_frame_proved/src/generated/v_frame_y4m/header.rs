@@ -18,7 +18,7 @@ use crate::generated::v_frame::sequence::Sequence;
 /// assert_eq!(header.frame_rate, Some(Ratio { numerator: 30000, denominator: 1001 }));
 /// # Ok::<(), v_frame_proved::y4m::HeaderError>(())
 /// ```
-#[derive(Debug, Clone, Copy, PartialEq, Eq)]
+#[derive(Debug, Clone, Copy, PartialEq, Eq, Hash)]
 pub struct Ratio {
     /// The number before the colon.
     pub numerator: u64,
@@ -62,7 +62,7 @@ impl Ratio {
 /// assert_eq!(header.interlacing, Some(Interlacing::TopFirst));
 /// # Ok::<(), v_frame_proved::y4m::HeaderError>(())
 /// ```
-#[derive(Debug, Clone, Copy, PartialEq, Eq)]
+#[derive(Debug, Clone, Copy, PartialEq, Eq, Hash)]
 pub enum Interlacing {
     /// `p`: progressive.
     Progressive,
@@ -137,7 +137,7 @@ impl Interlacing {
 /// assert_eq!(header_line(&StreamHeader::new(640, 360, Color::Unstated))?, b"YUV4MPEG2 W640 H360");
 /// # Ok::<(), Box<dyn std::error::Error>>(())
 /// ```
-#[derive(Debug, PartialEq, Eq, Clone)]
+#[derive(Debug, PartialEq, Eq, Clone, Hash)]
 pub struct StreamHeader {
     /// `W`: the width in pixels. At least 1 in a valid stream.
     pub width: usize,
@@ -161,7 +161,9 @@ impl StreamHeader {
     /// and no extension contains a space or a line feed.
     ///
     /// Every header that was read can be written. A line of more than [`MAX_LINE_BYTES`](crate::y4m::MAX_LINE_BYTES) is written too,
-    /// although no reader of this crate accepts it.
+    /// although no reader of this crate accepts it. A carriage return at the end of the last extension is written, too.
+    /// [`read_header`](crate::y4m::read_header) reads it back, but [`read_lax_header`](crate::y4m::read_lax_header) leaves it out, because
+    /// lax lines may end with a carriage return.
     ///
     /// # Examples
     ///

@@ -7,7 +7,7 @@ use core::fmt;
 use crate::generated::v_frame::sequence::Sequence;
 
 /// A part of a header line, with arbitrary bytes. It is displayed with `?` for each byte that is not printable ASCII.
-#[derive(Debug, PartialEq, Eq, Clone)]
+#[derive(Debug, PartialEq, Eq, Clone, Hash)]
 pub struct Text {
     /// The bytes of the part.
     pub bytes: Sequence<u8>,
