@@ -14,7 +14,7 @@ use yuv_copies::{do_copy, do_show};
 use yuv_facts::{do_info, do_stats, do_sum};
 use yuv_files::{SystemFile, shown_name, write_message};
 use yuv_system::{Fault, ProgressLine, Status, System, counts_shown, write_text};
-use yuv_words::{Command, CommandName, UsageError, help_topic, read_command, usage_text};
+use yuv_words::{Command, CommandName, Topic, UsageError, help_topic, read_command, usage_text};
 
 /// What `yuv --version` prints.
 pub const VERSION: &str = "yuv 0.4.0\n";
@@ -92,12 +92,12 @@ where
     }
 }
 
-/// Reports what is wrong with the words of a call, and where help is.
+/// Reports what is wrong with the words of a call, and how to get help.
 pub fn refuse<E: io::Write>(refusal: &UsageError<'_>, out: &mut E) -> Status
     ensures { result ≡ Failed }
 {
     write_message(out, None, refusal);
-    let _ = out.write_all(b"yuv help says how it is called\n");
+    let _ = out.write_all(b"Run 'yuv help' for usage.\n");
     Status::Failed
 }
 
@@ -147,10 +147,10 @@ where
     }
 }
 
-/// Writes how the program is called, or one of its commands, and what each option of that does.
-fn print_usage<O: io::Write>(output: &mut O, topic: Option<CommandName>) -> Result<Status, Fault> {
+/// Prints the help of a topic; of a command, with that of each of its options.
+fn print_usage<O: io::Write>(output: &mut O, topic: Topic) -> Result<Status, Fault> {
     write_text(output, usage_text(topic))?;
-    if let Some(command) = topic {
+    if let Topic::Command(command) = topic {
         for option in command.options() {
             write_text(output, option.help())?;
         }

@@ -45,7 +45,7 @@ fn an_argument_that_is_not_utf8_is_refused() {
     let words = ["info".into(), OsString::from_vec(vec![0xff])];
     let output = Command::new(env!("CARGO_BIN_EXE_yuv")).args(words).output().expect("an output");
     assert_eq!((output.status.code(), output.stdout.as_slice()), (Some(2), &b""[..]));
-    assert!(output.stderr.starts_with(b"yuv: an argument is not UTF-8\n"), "{output:?}");
+    assert!(output.stderr.starts_with(b"yuv: an argument is not valid UTF-8\n"), "{output:?}");
 }
 
 /// Returns a stream of frames of 8 by 8 pixels in 4:4:4, of so many bits, whose planes have one value each.
@@ -169,7 +169,7 @@ fn help_tells_what_nobody_asks_for() {
     ];
     for (words, option, value, other) in cases {
         let help = String::from_utf8(run(&room, &["help", words[0]]).stdout).expect("text");
-        let line = help.lines().find(|line| line.starts_with(option)).expect("a line");
+        let line = help.lines().find(|line| line.trim_start().starts_with(option)).expect("a line");
         assert!(line.ends_with(&format!(" ({value})")), "{line}");
         let picture = |value| run(&room, &[words, &[option, value]].concat()).stdout;
         let (wanted, others) = (picture(value), picture(other));
