@@ -76,6 +76,10 @@ pub struct Options {
     pub raw_output: bool,
     /// `--progress`: the count of frames is shown meanwhile.
     pub progress: bool,
+    /// `--force`: a target is written that would be rejected, and a crop is taken that swaps fields.
+    pub force: bool,
+    /// `--salvage`: the whole frames before a frame that cannot be read are written.
+    pub salvage: bool,
     /// `--skip`: how many frames are passed over; of two streams those of both, or of the first alone where `skip_second`
     /// is given.
     pub skip: Option<u64>,

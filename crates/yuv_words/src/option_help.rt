@@ -45,6 +45,17 @@ pub(crate) const PROGRESS: &str =
                   lines of frames go to one too the last count alone, with
                   --json none\n";
 
+/// Of `--force`.
+pub(crate) const FORCE: &str =
+    "--force           writes a target that is an input, a stream that a picture would
+                  replace, or a name that stands for another kind of file, and
+                  takes a crop that swaps the fields of interlaced video\n";
+
+/// Of `--salvage`.
+pub(crate) const SALVAGE: &str =
+    "--salvage         writes the whole frames that precede a frame that cannot be
+                  read, says how many, and then reports that frame, with status 2\n";
+
 /// Of `--raw`.
 pub(crate) const RAW: &str = "--raw R           the (first) file is headerless raw video: R is
                   WIDTHxHEIGHT:FORMAT or WIDTHxHEIGHT:FORMAT@N:D, as
