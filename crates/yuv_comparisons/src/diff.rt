@@ -16,11 +16,11 @@ use v_frame::frame::Frame;
 use v_frame::pixel::Pixel;
 use v_frame_measures::GreatestDifference;
 use v_frame_streams::{Picture, Place, Source, check_formats};
-use yuv_files::SystemFile;
+use yuv_files::{FileKind, SystemFile};
 use yuv_pictures::{Found, PictureError, PlaneDifference, differences, write_difference_picture};
 use yuv_system::{
-    Fault, Output, Status, System, begin, frames_before, is_standard_output, most_pixels,
-    no_memory, open_file, read_behind, write_made, write_text,
+    Fault, Output, Status, System, Target, begin, frames_before, is_standard_output, most_pixels,
+    no_memory, open_file, read_behind, test_target, write_made, write_text,
 };
 use yuv_words::{Call, Options};
 
@@ -47,17 +47,18 @@ where
     let (first, second, to) = (call.first, call.second, call.third);
     let options = &call.options;
     let rt = system.rt;
+    let target = Target {
+        name: to,
+        written: FileKind::Png,
+        inputs: &[first, second],
+        is_forced: options.force,
+    };
+    test_target(rt, &target)?;
     let mut file = open_file(rt, first, Place::First, &mut system.input)?;
     let mut one = begin(system, first, &mut file, options.raw)?;
     let mut other_file = open_file(rt, second, Place::Second, &mut system.input)?;
     let mut other = begin(system, second, &mut other_file, options.raw_second)?;
-    let mut output = Output::open(
-        rt,
-        to,
-        &[first, second],
-        &mut system.output,
-        system.progress.out(),
-    )?;
+    let mut output = Output::open(rt, &target, &mut system.output, system.progress.out())?;
     let done = match write_difference(rt.alloc(), &mut one, &mut other, options, &mut output) {
         Ok(drawn) => {
             let (_written, found) = drawn;

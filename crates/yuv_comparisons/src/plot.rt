@@ -16,10 +16,10 @@ use v_frame_measures::{FrameMeasure, frame_ssim, frames_have_one_size};
 use v_frame_streams::{
     CompareOptions, FrameObserver, Place, PlaneSums, Progress, Source, StreamError, compare_streams,
 };
-use yuv_files::SystemFile;
+use yuv_files::{FileKind, SystemFile};
 use yuv_system::{
-    Fault, Output, Status, System, begin, expected_frames, no_memory, open_file, taken_of_both,
-    test_compared, write_text,
+    Fault, Output, Status, System, Target, begin, expected_frames, no_memory, open_file,
+    taken_of_both, test_compared, test_target, write_text,
 };
 use yuv_words::{Call, Options};
 
@@ -43,6 +43,13 @@ where
     let (first, second, to) = (call.first, call.second, call.third);
     let options = &call.options;
     let rt = system.rt;
+    let target = Target {
+        name: to,
+        written: FileKind::Svg,
+        inputs: &[first, second],
+        is_forced: options.force,
+    };
+    test_target(rt, &target)?;
     let mut file = open_file(rt, first, Place::First, &mut system.input)?;
     let len = file.len();
     let mut one = begin(system, first, &mut file, options.raw)?;
@@ -53,13 +60,7 @@ where
     let names = (first, second);
     let text = drawn(rt.alloc(), &mut one, &mut other, options, names, progress)?;
     system.progress.end();
-    let mut output = Output::open(
-        rt,
-        to,
-        &[first, second],
-        &mut system.output,
-        system.progress.out(),
-    )?;
+    let mut output = Output::open(rt, &target, &mut system.output, system.progress.out())?;
     let done = write_drawn(&mut output, text.as_str());
     drop(text);
     output.settle(rt, done)

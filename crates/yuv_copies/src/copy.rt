@@ -1,6 +1,7 @@
 //! The command `copy`: a stream is written once more.
 ghost use Rattle.std.specs.Prelude.{◌≡◌, ◌&&◌, IfOk, OnOk};
 ghost use Rattle.yuv_copies.specs.Fields.{has_fields};
+ghost use Rattle.yuv_copies.specs.Targets.{kind_of_copy};
 ghost use Rattle.yuv_system.specs.Options.{copy_of, KeepsLimit};
 ghost use Rattle.v_frame_streams.specs.Prelude.{bytes_left, Copies};
 ghost use Rattle.yuv_words.specs.declared.command.CommandName.TheVariants.{Copy};
@@ -11,10 +12,10 @@ use std::rt::Files;
 use std::time::Clock;
 use v_frame_streams::{Place, Progress, Sink, Source, StreamError, copy_stream};
 use v_frame_y4m::{Interlacing, StreamHeader};
-use yuv_files::{SystemFile, shown_name, write_message};
+use yuv_files::{FileKind, SystemFile, shown_name, write_message};
 use yuv_system::{
-    Fault, Output, Status, System, begin, copy_sink, expected_frames, nothing_taken, open_file,
-    stream_copy, test_limit,
+    Fault, Output, Status, System, Target, begin, copy_sink, expected_frames, nothing_taken,
+    open_file, stream_copy, test_limit, test_target,
 };
 use yuv_words::{Call, Options};
 
@@ -38,6 +39,13 @@ where
     let (from, to) = (call.first, call.second);
     let options = &call.options;
     let rt = system.rt;
+    let target = Target {
+        name: to,
+        written: written_kind(options),
+        inputs: &[from],
+        is_forced: options.force,
+    };
+    test_target(rt, &target)?;
     let mut file = open_file(rt, from, Place::First, &mut system.input)?;
     let len = file.len();
     let mut source = begin(system, from, &mut file, options.raw)?;
@@ -49,7 +57,7 @@ where
         );
     }
     system.progress.expect(expected_frames(&source, len));
-    let mut output = Output::open(rt, to, &[from], &mut system.output, system.progress.out())?;
+    let mut output = Output::open(rt, &target, &mut system.output, system.progress.out())?;
     let mut sink = copy_sink(options, &mut output);
     let done = copy_source(
         rt.alloc(),
@@ -69,6 +77,17 @@ where
         write_message(system.progress.out(), Some(shown_name(from)), &nothing);
     }
     Ok(Status::Same)
+}
+
+/// Returns the kind of file that a copy writes.
+fn written_kind(options: &Options) -> FileKind
+    ensures { result ≡ kind_of_copy options.now.raw_output }
+{
+    if options.raw_output {
+        FileKind::Raw
+    } else {
+        FileKind::Y4m
+    }
 }
 
 /// Returns whether a copy makes one row of two that are of two fields, which are of two moments.

@@ -16,11 +16,11 @@ use v_frame::frame::Frame;
 use v_frame::pixel::Pixel;
 use v_frame_rgb::{ColorRange, Standard};
 use v_frame_streams::{Picture, Place, Rectangle, Source, StreamError, check_crop, crop_frame};
-use yuv_files::SystemFile;
+use yuv_files::{FileKind, SystemFile};
 use yuv_pictures::{Colors, PictureError, write_frame_picture, write_plane_picture};
 use yuv_system::{
-    Fault, Output, Status, System, begin, frames_before, most_pixels, open_file, read_behind,
-    test_pixels,
+    Fault, Output, Status, System, Target, begin, frames_before, most_pixels, open_file,
+    read_behind, test_pixels, test_target,
 };
 use yuv_words::{Call, Options};
 
@@ -45,6 +45,13 @@ where
     let (from, to) = (call.first, call.second);
     let options = &call.options;
     let rt = system.rt;
+    let target = Target {
+        name: to,
+        written: FileKind::Png,
+        inputs: &[from],
+        is_forced: options.force,
+    };
+    test_target(rt, &target)?;
     let mut file = open_file(rt, from, Place::First, &mut system.input)?;
     let mut source = begin(system, from, &mut file, options.raw)?;
     // Before a file is made for the picture.
@@ -53,7 +60,7 @@ where
         Place::First,
         most_pixels(options.max_pixels),
     )?;
-    let mut output = Output::open(rt, to, &[from], &mut system.output, system.progress.out())?;
+    let mut output = Output::open(rt, &target, &mut system.output, system.progress.out())?;
     let shown = if source.header().color.bit_depth() == 8 {
         show_frame::<u8, _, _>(rt.alloc(), &mut source, options, &mut output)
     } else {

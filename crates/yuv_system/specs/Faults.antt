@@ -6,7 +6,7 @@ use Rattle.v_frame_streams.specs.declared.stream.Place.{Place}
 use Rattle.yuv_pictures.specs.declared.error.PictureError.TheVariants.{NoPlane}
 use Rattle.yuv_system.specs.declared.fault.Fault.{Fault}
 use Rattle.yuv_system.specs.declared.fault.Fault.TheVariants.{Open, InputTwice, ReadAndWritten, NotAStream, NoBytes, NoPlanes, Header, Stream}
-use Rattle.yuv_system.specs.declared.fault.Fault.TheVariants.{Report, Create, Replace, Rewrite, Picture, Nothing, NoFrame, FrameZero, NoWindow}
+use Rattle.yuv_system.specs.declared.fault.Fault.TheVariants.{Report, Create, Replace, Rewrite, Target, Picture, Nothing, NoFrame, FrameZero, NoWindow}
 
 -- the file that a fault is about, where it is about one
 abbrev pub place_of : Fault → Option Place
@@ -22,6 +22,7 @@ place_of (Report error) = Some error.place
 place_of (Create cause) = Some Place.Output
 place_of (Replace cause) = Some Place.Output
 place_of (Rewrite cause) = Some Place.Output
+place_of (Target written error) = Some Place.Output
 place_of (Picture NoPlane) = Some Place.First
 place_of (Picture error) = Some Place.Output
 place_of (Nothing place taken) = Some place

@@ -7,6 +7,7 @@ use std::{fmt, io};
 use v_frame_png::PngError;
 use v_frame_streams::{Place, Problem, StreamError};
 use v_frame_y4m::{HeaderError, Y4mError};
+use yuv_files::{FileKind, TargetError};
 use yuv_pictures::PictureError;
 
 /// Why a command gave up.
@@ -36,6 +37,8 @@ pub enum Fault {
     Replace(io::ErrorKind),
     /// What was written can't be copied to its place, and a part of it stands there.
     Rewrite(io::ErrorKind),
+    /// The command writes a file of this kind, and the target is rejected.
+    Target(FileKind, TargetError),
     /// The picture was not written.
     Picture(PictureError),
     /// No frame of the stream of that place was taken.
@@ -67,9 +70,11 @@ impl Fault {
                 Some(error.place)
             }
             Fault::Picture(PictureError::NoPlane) => Some(Place::First),
-            Fault::Create(_) | Fault::Replace(_) | Fault::Rewrite(_) | Fault::Picture(_) => {
-                Some(Place::Output)
-            }
+            Fault::Create(_)
+            | Fault::Replace(_)
+            | Fault::Rewrite(_)
+            | Fault::Target(_, _)
+            | Fault::Picture(_) => Some(Place::Output),
             Fault::FrameZero => None,
         }
     }
@@ -105,6 +110,7 @@ impl fmt::Display for Fault {
                 f,
                 "rewritten in part, and whole in its .partial: {cause}"
             ),
+            Fault::Target(written, error) => write_rejection(f, *written, *error),
             Fault::Picture(PictureError::Png(PngError::Write(error))) => {
                 let cause = error.kind();
                 write!(f, "write failed: {cause}")
@@ -115,6 +121,43 @@ impl fmt::Display for Fault {
             Fault::FrameZero => f.write_str("frames are counted from 1"),
             Fault::NoWindow(_) => { f.write_str("--ssim needs planes of at least 8 by 8 samples") }
         }
+    }
+}
+
+/// Writes why a command that writes a file of the kind `written` rejects its target, and what to do instead.
+fn write_rejection<W: fmt::Write>(
+    f: &mut fmt::Formatter<W>,
+    written: FileKind,
+    error: TargetError,
+) -> fmt::Result {
+    let wrote = written.text();
+    match error {
+        TargetError::Input => {
+            f.write_str("the command reads it; name another target, or add --force to replace it")
+        }
+        TargetError::Stream => write!(
+            f,
+            "it is a YUV4MPEG2 stream, and the command writes {wrote}; name another target, or add --force to replace it"
+        ),
+        TargetError::OtherKind(kind) => {
+            let (named, advice) = (kind.text(), advice_of(written, kind));
+            write!(
+                f,
+                "the name stands for {named}, and the command writes {wrote}; {advice}, or add --force"
+            )
+        }
+    }
+}
+
+/// Returns what a user should do to get a file of the kind `named` from a command that writes `written`.
+fn advice_of(written: FileKind, named: FileKind) -> &'static str {
+    match (written, named) {
+        (FileKind::Png, _) => "name a .png file",
+        (FileKind::Svg, _) => "name an .svg file",
+        (_, FileKind::Raw) => "add --raw-output",
+        (_, FileKind::Y4m) => "leave out --raw-output",
+        (_, FileKind::Container) => "write a .y4m file and let ffmpeg convert it",
+        _ => "write a frame with yuv show",
     }
 }
 

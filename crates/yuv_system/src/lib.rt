@@ -25,7 +25,7 @@ pub use opening::open_file;
 pub use options::{
     copy_sink, most_pixels, stream_comparison, stream_copy, taken_of_both, test_limit, test_pixels,
 };
-pub use output::{Output, is_standard_output};
+pub use output::{Output, Target, is_standard_output, test_target};
 pub use progress::ProgressLine;
 pub use report::{no_memory, write_made, write_text};
 pub use shown::{Shown, counts_shown};

@@ -87,6 +87,10 @@ pub struct Options {
     pub raw_output: bool,
     /// `--progress`: a running frame count is shown.
     pub progress: bool,
+    /// `--force`: a target that would be rejected is written, and a crop that swaps fields is taken.
+    pub force: bool,
+    /// `--salvage`: the complete frames before a frame that cannot be read are written.
+    pub salvage: bool,
     /// `--skip`: the number of frames to skip: in both streams, or only in the first if `skip_second` is given.
     pub skip: Option<u64>,
     /// `--skip-second`: the number of frames of the second stream to skip.

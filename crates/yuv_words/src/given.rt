@@ -11,7 +11,7 @@ use yuv_reports::ReportForm;
 #[derive(Clone, Copy)]
 pub(crate) struct Given<'a> {
     texts: [Option<&'a str>; OPTION_COUNT],
-    ghost all: { length texts ≡ 26 },
+    ghost all: { length texts ≡ 28 },
 }
 
 impl<'a> Given<'a> {
@@ -91,6 +91,8 @@ impl<'a> Given<'a> {
             histogram: self.has(OptionName::Histogram),
             raw_output: self.has(OptionName::RawOutput),
             progress: self.has(OptionName::Progress),
+            force: self.has(OptionName::Force),
+            salvage: self.has(OptionName::Salvage),
             skip: self.value(OptionName::Skip)?,
             skip_second: self.value(OptionName::SkipSecond)?,
             count: self.value(OptionName::Count)?,

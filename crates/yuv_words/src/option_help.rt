@@ -46,6 +46,17 @@ pub(crate) const RAW_OUTPUT: &str =
 pub(crate) const PROGRESS: &str =
     "  --progress         show a running frame count if standard error is a terminal\n";
 
+/// The help of `--force`.
+pub(crate) const FORCE: &str =
+    "  --force            write the target even if it is an input, a video that a
+                     picture would replace, or has the extension of another
+                     kind of file; crop even if that swaps interlaced fields\n";
+
+/// The help of `--salvage`.
+pub(crate) const SALVAGE: &str =
+    "  --salvage          if a frame cannot be read, keep the frames before it, print
+                     their number, and exit with status 2\n";
+
 /// The help of `--raw`.
 pub(crate) const RAW: &str =
     "  --raw SPEC         read the (first) file as headerless video. SPEC is

@@ -7,14 +7,14 @@ ghost use Rattle.yuv_words.specs.declared.option_name.OptionName.{OptionName as 
 
 use crate::command::CommandName;
 use crate::option_help::{
-    ASPECT, COUNT, CROP, CSV, EXACT, FORMAT, FRAME, FRAMES, GAIN, HALF, HEADER, HISTOGRAM, JSON,
-    MATRIX, MAX_PIXELS, PLANE, PLANES, PROGRESS, RANGE, RATE, RAW, RAW_OUTPUT, RAW_SECOND, SKIP,
-    SKIP_SECOND, SSIM,
+    ASPECT, COUNT, CROP, CSV, EXACT, FORCE, FORMAT, FRAME, FRAMES, GAIN, HALF, HEADER, HISTOGRAM, JSON,
+    MATRIX, MAX_PIXELS, PLANE, PLANES, PROGRESS, RANGE, RATE, RAW, RAW_OUTPUT, RAW_SECOND, SALVAGE,
+    SKIP, SKIP_SECOND, SSIM,
 };
 use crate::option_name::OptionName::{
-    Aspect, Count, Crop, Csv, Exact, Format, Frame, Frames, Gain, Half, Header, Histogram, Json,
-    Matrix, MaxPixels, Plane, Planes, Progress, Range, Rate, Raw, RawOutput, RawSecond, Skip,
-    SkipSecond, Ssim,
+    Aspect, Count, Crop, Csv, Exact, Force, Format, Frame, Frames, Gain, Half, Header, Histogram, Json,
+    Matrix, MaxPixels, Plane, Planes, Progress, Range, Rate, Raw, RawOutput, RawSecond, Salvage,
+    Skip, SkipSecond, Ssim,
 };
 
 /// An option of some command, by its name.
@@ -31,6 +31,8 @@ pub enum OptionName {
     Histogram,
     RawOutput,
     Progress,
+    Force,
+    Salvage,
     Raw,
     RawSecond,
     MaxPixels,
@@ -49,13 +51,13 @@ pub enum OptionName {
 }
 
 /// How many options there are.
-pub(crate) const OPTION_COUNT: usize = 26;
+pub(crate) const OPTION_COUNT: usize = 28;
 
 /// All options.
 const OPTIONS: [OptionName; OPTION_COUNT] = [
-    Header, Ssim, Frames, Exact, Csv, Json, Half, Planes, Histogram, RawOutput, Progress, Raw,
-    RawSecond, MaxPixels, Skip, SkipSecond, Count, Crop, Format, Rate, Aspect, Frame, Matrix,
-    Range, Plane, Gain,
+    Header, Ssim, Frames, Exact, Csv, Json, Half, Planes, Histogram, RawOutput, Progress, Force,
+    Salvage, Raw, RawSecond, MaxPixels, Skip, SkipSecond, Count, Crop, Format, Rate, Aspect, Frame,
+    Matrix, Range, Plane, Gain,
 ];
 
 /// All commands that have files.
@@ -89,6 +91,8 @@ impl OptionName {
             Histogram => ("--histogram", None, HISTOGRAM),
             RawOutput => ("--raw-output", None, RAW_OUTPUT),
             Progress => ("--progress", None, PROGRESS),
+            Force => ("--force", None, FORCE),
+            Salvage => ("--salvage", None, SALVAGE),
             Raw => ("--raw", Some("WIDTHxHEIGHT:FORMAT[@RATE]"), RAW),
             RawSecond => (
                 "--raw-second",
@@ -227,13 +231,16 @@ impl CommandName {
                 Progress,
             ],
             CommandName::Copy => &[
-                Skip, Count, Crop, Half, Format, Rate, Aspect, Raw, RawOutput, MaxPixels, Progress,
+                Skip, Count, Crop, Half, Format, Rate, Aspect, Raw, RawOutput, Salvage, Force,
+                MaxPixels, Progress,
             ],
             CommandName::Sum => &[Planes, Skip, Count, Raw, MaxPixels, Progress],
-            CommandName::Stats => &[Histogram, Skip, Count, Raw, MaxPixels, Progress],
-            CommandName::Show => &[Frame, Matrix, Range, Plane, Crop, Raw, MaxPixels],
-            CommandName::Diff => &[Frame, Gain, Raw, RawSecond, MaxPixels],
-            CommandName::Plot => &[Skip, SkipSecond, Count, Raw, RawSecond, MaxPixels, Progress],
+            CommandName::Stats => &[Histogram, Range, Skip, Count, Raw, MaxPixels, Progress],
+            CommandName::Show => &[Frame, Matrix, Range, Plane, Crop, Raw, Force, MaxPixels],
+            CommandName::Diff => &[Frame, Gain, Raw, RawSecond, Force, MaxPixels],
+            CommandName::Plot => &[
+                Skip, SkipSecond, Count, Raw, RawSecond, Force, MaxPixels, Progress,
+            ],
         }
     }
 

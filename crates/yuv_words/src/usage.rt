@@ -68,7 +68,7 @@ const COPY: &str = "Usage: yuv copy INPUT OUTPUT [OPTIONS]
 
 Copy a video, or a part of it. The options are applied in this order: --skip and
 --count, --crop, --half, --format. OUTPUT is replaced after the last frame was
-written; until then the frames are in OUTPUT.partial. OUTPUT may be INPUT.
+written; until then the frames are in OUTPUT.partial.
 
 Examples:
   yuv copy in.y4m out.y4m --skip 10 --count 100 --crop 0,0,640,360

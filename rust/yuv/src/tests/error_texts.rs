@@ -1,6 +1,7 @@
 //! What errors say: each row of the table is what a value of its variant prints. tools/check-error-texts sees that no variant
 //! lacks a row.
 
+use crate::generated::yuv_files::{FileKind, TargetError};
 use crate::generated::yuv_pictures::PictureError;
 use crate::generated::yuv_system::{Fault, NothingTaken};
 use crate::generated::yuv_words::{CommandName, OptionName, UsageError};
@@ -98,6 +99,14 @@ fn faults_of_commands() {
             ("Create", Fault::Create(ErrorKind::PermissionDenied)),
             ("Replace", Fault::Replace(ErrorKind::PermissionDenied)),
             ("Rewrite", Fault::Rewrite(ErrorKind::StorageFull)),
+            ("Target", Fault::Target(FileKind::Png, TargetError::Input)),
+            ("Target", Fault::Target(FileKind::Svg, TargetError::Stream)),
+            ("Target", Fault::Target(FileKind::Y4m, TargetError::OtherKind(FileKind::Raw))),
+            ("Target", Fault::Target(FileKind::Raw, TargetError::OtherKind(FileKind::Y4m))),
+            ("Target", Fault::Target(FileKind::Y4m, TargetError::OtherKind(FileKind::Container))),
+            ("Target", Fault::Target(FileKind::Y4m, TargetError::OtherKind(FileKind::Png))),
+            ("Target", Fault::Target(FileKind::Png, TargetError::OtherKind(FileKind::OtherPicture))),
+            ("Target", Fault::Target(FileKind::Svg, TargetError::OtherKind(FileKind::Png))),
             ("Picture", Fault::Picture(full)),
             ("Picture", Fault::Picture(PictureError::NoPlane)),
             ("Nothing", Fault::Nothing(Place::First, nothing(9, None))),

@@ -104,6 +104,8 @@ fn told_of_options(options: &Options) -> String {
         flag("raw output", options.raw_output),
         number("max pixels", options.max_pixels),
         flag("progress", options.progress),
+        flag("force", options.force),
+        flag("salvage", options.salvage),
     ]
     .concat()
 }
