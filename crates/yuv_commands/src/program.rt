@@ -1,6 +1,6 @@
 //! The program: its words are read and done, and what went wrong is reported.
-ghost use Rattle.std.specs.Prelude.{◌≡◌};
-ghost use Rattle.yuv_system.specs.declared.status.Status.TheVariants.{Failed};
+ghost use Rattle.std.specs.Prelude.{◌≡◌, ◌⊎◌};
+ghost use Rattle.yuv_system.specs.declared.status.Status.TheVariants.{Closed, Failed};
 ghost use Rattle.yuv_words.specs.Calls.{AsksHelp, IsWrittenAs};
 ghost use Rattle.yuv_words.specs.Words.{texts_of};
 ghost use Rattle.yuv_words.specs.declared.command.Command.{Command as TheCommand};
@@ -101,14 +101,17 @@ pub fn refuse<E: io::Write>(refusal: &UsageError<'_>, out: &mut E) -> Status
     Status::Failed
 }
 
-/// Reports what went wrong, and where.
+/// Reports what went wrong, and where. If the reader of the output closed it, nothing is reported, as by other programs.
 fn give_up<H: Clock, I, O, E: io::Write>(
     system: &mut System<'_, H, I, O, E>,
     command: &Command<'_>,
     fault: Fault,
 ) -> Status
-    ensures { result ≡ Failed }
+    ensures { (result ≡ Failed) ⊎ (result ≡ Closed) }
 {
+    if fault.is_closed_pipe() {
+        return Status::Closed;
+    }
     let name = match (fault.place(), &fault) {
         (Some(_), Fault::Report(_)) => Some(STANDARD_OUTPUT),
         (Some(place), _) => Some(name_of(command, place)),

@@ -98,6 +98,14 @@ pub fn target_facts<H: Files + AllocGlobal>(
     })
 }
 
+/// Returns whether a name is that of a regular file that begins as a YUV4MPEG2 stream does.
+pub fn is_stream_file<H: Files>(rt: &H, name: &str) -> bool {
+    match fs::metadata(rt, name) {
+        Ok(found) => found.is_file() && is_stream(rt, name),
+        Err(_) => false,
+    }
+}
+
 /// Returns whether a file begins as a YUV4MPEG2 stream does.
 fn is_stream<H: Files>(rt: &H, name: &str) -> bool {
     let mut first = [0; 9];

@@ -7,8 +7,11 @@ use std::{fmt, io};
 use v_frame_png::PngError;
 use v_frame_streams::{Place, Problem, StreamError};
 use v_frame_y4m::{HeaderError, Y4mError};
-use yuv_files::{FileKind, TargetError};
+use yuv_files::{FileKind, SystemError, TargetError};
 use yuv_pictures::PictureError;
+
+/// What the message adds if a file is not a YUV4MPEG2 stream.
+const NOT_A_STREAM: &str = "; for headerless video, add --raw WIDTHxHEIGHT:FORMAT; for other files, run 'ffmpeg -i FILE -f yuv4mpegpipe - | yuv COMMAND -'";
 
 /// Why a command gave up.
 #[derive(Drop)]
@@ -80,6 +83,21 @@ impl Fault {
     }
 }
 
+impl Fault {
+    /// Returns whether the reader of an output closed it, as `head` does.
+    pub fn is_closed_pipe(&self) -> bool {
+        match self {
+            Fault::Stream(error) | Fault::Report(error) => {
+                error.place == Place::Output && error.cause == Some(io::ErrorKind::BrokenPipe)
+            }
+            Fault::Picture(PictureError::Png(PngError::Write(error))) => {
+                error.kind() == io::ErrorKind::BrokenPipe
+            }
+            _ => false,
+        }
+    }
+}
+
 impl From<StreamError> for Fault {
     fn from(error: StreamError) -> Self {
         Fault::Stream(error)
@@ -96,32 +114,44 @@ impl From<PictureError> for Fault {
 impl fmt::Display for Fault {
     fn fmt<W: fmt::Write>(&self, f: &mut fmt::Formatter<W>) -> fmt::Result {
         match self {
-            Fault::Open(_, cause) => write!(f, "cannot open: {cause}"),
+            Fault::Open(_, kind) => write_failed(f, "cannot open", *kind),
             Fault::InputTwice(_) => f.write_str("standard input can be read only once"),
             Fault::ReadAndWritten(_) => f.write_str("cannot be read and written at once"),
-            Fault::NotAStream(_) => fmt::Display::fmt(&HeaderError::NotAStream, f),
+            Fault::NotAStream(_) => {
+                fmt::Display::fmt(&HeaderError::NotAStream, f)?;
+                f.write_str(NOT_A_STREAM)
+            }
             Fault::NoBytes(_) => f.write_str("nothing to read: it is empty or closed"),
-            Fault::NoPlanes(_) => f.write_str("--planes needs video in planes"),
+            Fault::NoPlanes(_) => f.write_str("--planes requires planar video"),
             Fault::Header(error) => write_caused(f, error),
             Fault::Stream(error) | Fault::Report(error) => write_stream_error(f, error),
-            Fault::Create(cause) => write!(f, "cannot create: {cause}"),
-            Fault::Replace(cause) => write!(f, "cannot replace: {cause}"),
-            Fault::Rewrite(cause) => write!(
-                f,
-                "rewritten in part, and whole in its .partial: {cause}"
-            ),
+            Fault::Create(kind) => write_failed(f, "cannot create", *kind),
+            Fault::Replace(kind) => write_failed(f, "cannot replace", *kind),
+            Fault::Rewrite(kind) => {
+                write_failed(f, "overwritten in part; the whole output is in its .partial file", *kind)
+            }
             Fault::Target(written, error) => write_rejection(f, *written, *error),
             Fault::Picture(PictureError::Png(PngError::Write(error))) => {
-                let cause = error.kind();
-                write!(f, "write failed: {cause}")
+                write_failed(f, "write failed", error.kind())
             }
             Fault::Picture(error) => fmt::Display::fmt(error, f),
             Fault::Nothing(_, nothing) => fmt::Display::fmt(nothing, f),
+            Fault::NoFrame(_, 1) => f.write_str("the stream has only 1 frame"),
             Fault::NoFrame(_, frames) => write!(f, "the stream has only {frames} frames"),
-            Fault::FrameZero => f.write_str("frames are counted from 1"),
-            Fault::NoWindow(_) => { f.write_str("--ssim needs planes of at least 8 by 8 samples") }
+            Fault::FrameZero => f.write_str("there is no frame 0: frames are counted from 1"),
+            Fault::NoWindow(_) => f.write_str("--ssim requires planes of at least 8x8 samples"),
         }
     }
+}
+
+/// Writes what failed, and the error that the system reported.
+fn write_failed<W: fmt::Write>(
+    f: &mut fmt::Formatter<W>,
+    what: &str,
+    kind: io::ErrorKind,
+) -> fmt::Result {
+    let error = SystemError { kind };
+    write!(f, "{what}: {error}")
 }
 
 /// Writes why a command that writes a file of the kind `written` rejects its target, and what to do instead.
@@ -182,14 +212,27 @@ fn is_of_a_frame(error: &StreamError) -> bool {
     }
 }
 
-/// Writes what happened, and what the system reported.
+/// Writes what happened to a stream, what the user can do, and the error that the system reported.
 fn write_caused<W: fmt::Write>(f: &mut fmt::Formatter<W>, error: &StreamError) -> fmt::Result {
     fmt::Display::fmt(&error.problem, f)?;
-    if let Problem::TooManyPixels(_) = &error.problem {
-        f.write_str("; --max-pixels N allows more")?;
-    }
-    match &error.cause {
-        Some(cause) => write!(f, ": {cause}"),
+    f.write_str(advice_for(&error.problem))?;
+    match error.cause {
+        Some(kind) => {
+            let cause = SystemError { kind };
+            write!(f, ": {cause}")
+        }
         None => Ok(()),
+    }
+}
+
+/// Returns what a message adds for the user to do.
+fn advice_for(problem: &Problem) -> &'static str {
+    match problem {
+        Problem::TooManyPixels(_) => "; --max-pixels N allows more",
+        Problem::SemiPlanar => "; --raw-output writes them",
+        Problem::OtherChroma { .. } | Problem::OtherDepth { .. } => {
+            "; 'yuv copy --format' converts one of them"
+        }
+        _ => "",
     }
 }

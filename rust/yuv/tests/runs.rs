@@ -135,7 +135,7 @@ fn chroma_whose_size_is_rounded_up_has_windows() {
         ("411", (28, 8), 224 + 112, false),
         ("444", (8, 7), 168, false),
     ];
-    let refusal = "yuv: one.y4m: --ssim needs planes of at least 8 by 8 samples\n";
+    let refusal = "yuv: one.y4m: --ssim requires planes of at least 8x8 samples\n";
     for (format, size, samples, has_windows) in cases {
         write("one.y4m", format, size, samples);
         let output = run(&room, &["compare", "one.y4m", "one.y4m", "--ssim"]);
@@ -150,7 +150,7 @@ fn chroma_whose_size_is_rounded_up_has_windows() {
     write("large.y4m", "mono", (8, 8), 64);
     let said = |words: [&str; 2]| String::from_utf8(run(&room, &["compare", words[0], words[1], "--ssim"]).stderr).expect("text");
     assert_eq!(said(["one.y4m", "large.y4m"]), refusal);
-    assert_eq!(said(["large.y4m", "one.y4m"]), "yuv: one.y4m: the streams have different sizes\n");
+    assert_eq!(said(["large.y4m", "one.y4m"]), "yuv: one.y4m: the streams have different sizes: 8x8 and 8x7\n");
 }
 
 /// What help has in brackets behind an option is what holds where it is not given.
@@ -215,7 +215,7 @@ fn semi_planar_video_has_no_sums_of_planes() {
         let output = run(&room, &["sum", "--planes", "--raw", &format!("2x2:{format}"), "one.yuv"]);
         let error = String::from_utf8_lossy(&output.stderr);
         assert_eq!(output.status.code(), Some(2), "{format}");
-        assert_eq!((output.stdout.len(), error.as_ref()), (0, "yuv: one.yuv: --planes needs video in planes\n"), "{format}");
+        assert_eq!((output.stdout.len(), error.as_ref()), (0, "yuv: one.yuv: --planes requires planar video\n"), "{format}");
     }
 }
 
@@ -228,7 +228,7 @@ fn standard_output_has_the_name_that_it_was_given_by() {
         let mut program = Command::new(env!("CARGO_BIN_EXE_yuv"));
         let output = program.args(["copy", "mono_7x5.y4m", name]).current_dir(room.folder()).stdout(full).output().expect("an output");
         let error = String::from_utf8_lossy(&output.stderr);
-        assert_eq!((output.status.code(), error.as_ref()), (Some(2), format!("yuv: {shown}: write failed: no storage space\n").as_str()));
+        assert_eq!((output.status.code(), error.as_ref()), (Some(2), format!("yuv: {shown}: write failed: No space left on device\n").as_str()));
     }
 }
 

@@ -1,7 +1,7 @@
 //! What errors say: each row of the table is what a value of its variant prints. tools/check-error-texts sees that no variant
 //! lacks a row.
 
-use crate::generated::yuv_files::{FileKind, TargetError};
+use crate::generated::yuv_files::{FileKind, SystemError, TargetError};
 use crate::generated::yuv_pictures::PictureError;
 use crate::generated::yuv_system::{Fault, NothingTaken};
 use crate::generated::yuv_words::{CommandName, OptionName, UsageError};
@@ -40,11 +40,11 @@ fn problems_of_streams() {
             ("TooLarge", Problem::TooLarge),
             ("TooManyPixels", Problem::TooManyPixels(33_177_600)),
             ("EmptyCrop", Problem::EmptyCrop),
-            ("CropOutside", Problem::CropOutside),
+            ("CropOutside", Problem::CropOutside { width: 64, height: 48 }),
             ("CropMisaligned", Problem::CropMisaligned { columns: 4, rows: 1 }),
-            ("OtherSize", Problem::OtherSize),
-            ("OtherChroma", Problem::OtherChroma),
-            ("OtherDepth", Problem::OtherDepth),
+            ("OtherSize", Problem::OtherSize { first_width: 64, first_height: 48, second_width: 32, second_height: 24 }),
+            ("OtherChroma", Problem::OtherChroma { first: "4:2:0", second: "4:4:4" }),
+            ("OtherDepth", Problem::OtherDepth { first: 8, second: 10 }),
             ("SemiPlanar", Problem::SemiPlanar),
             ("OtherLayout", Problem::OtherLayout),
             ("Unwritable", Problem::Unwritable),
@@ -55,6 +55,35 @@ fn problems_of_streams() {
     let shown = [forbidden(), first].map(|error| format!("v_frame_streams StreamError | {error}"));
     let rows = TABLE.lines().filter(|row| row.starts_with("v_frame_streams StreamError "));
     assert_eq!(rows.collect::<Vec<_>>(), shown);
+}
+
+/// The words are those of `strerror` of the C library, in English, as `perl -e 'print $!'` prints them.
+#[test]
+fn errors_of_the_system() {
+    let kinds = [
+        ErrorKind::NotFound,
+        ErrorKind::PermissionDenied,
+        ErrorKind::BrokenPipe,
+        ErrorKind::AlreadyExists,
+        ErrorKind::NotADirectory,
+        ErrorKind::IsADirectory,
+        ErrorKind::ReadOnlyFilesystem,
+        ErrorKind::StaleNetworkFileHandle,
+        ErrorKind::InvalidInput,
+        ErrorKind::StorageFull,
+        ErrorKind::NotSeekable,
+        ErrorKind::QuotaExceeded,
+        ErrorKind::FileTooLarge,
+        ErrorKind::ResourceBusy,
+        ErrorKind::ExecutableFileBusy,
+        ErrorKind::CrossesDevices,
+        ErrorKind::Interrupted,
+        ErrorKind::OutOfMemory,
+        ErrorKind::TimedOut,
+    ];
+    let shown = kinds.map(|kind| format!("yuv_files SystemError | {}", SystemError { kind }));
+    let rows: Vec<&str> = TABLE.lines().filter(|row| row.starts_with("yuv_files SystemError ")).collect();
+    assert_eq!(shown.as_slice(), rows);
 }
 
 #[test]
@@ -95,6 +124,8 @@ fn faults_of_commands() {
             ("Header", Fault::Header(missing())),
             ("Stream", Fault::Stream(forbidden())),
             ("Stream", Fault::Stream(after_two(Problem::TooManyPixels(33_177_600), None))),
+            ("Stream", Fault::Stream(after_two(Problem::SemiPlanar, None))),
+            ("Stream", Fault::Stream(after_two(Problem::OtherDepth { first: 8, second: 10 }, None))),
             ("Report", Fault::Report(unwritten)),
             ("Create", Fault::Create(ErrorKind::PermissionDenied)),
             ("Replace", Fault::Replace(ErrorKind::PermissionDenied)),
@@ -112,6 +143,7 @@ fn faults_of_commands() {
             ("Nothing", Fault::Nothing(Place::First, nothing(9, None))),
             ("Nothing", Fault::Nothing(Place::First, nothing(0, Some(0)))),
             ("NoFrame", Fault::NoFrame(Place::First, 2)),
+            ("NoFrame", Fault::NoFrame(Place::First, 1)),
             ("FrameZero", Fault::FrameZero),
             ("NoWindow", Fault::NoWindow(Place::First)),
         ],
