@@ -297,10 +297,7 @@ fn common_color_name(color: Color) -> &'static str
             Depth::Fourteen => "gray14",
             Depth::Sixteen => "gray16",
         },
-        Color::Unstated
-        | Color::Yuv420
-        | Color::Yuv420Mpeg2
-        | Color::Yuv420Paldv
-        | Color::Yuv411 => color.text(),
+        Color::Unstated | Color::Yuv420 | Color::Yuv420Mpeg2 | Color::Yuv420Paldv | Color::Yuv411 =>
+            color.text(),
     }
 }

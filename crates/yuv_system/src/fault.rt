@@ -11,7 +11,8 @@ use yuv_files::{FileKind, SystemError, TargetError};
 use yuv_pictures::PictureError;
 
 /// What the message adds if a file is not a YUV4MPEG2 stream.
-const NOT_A_STREAM: &str = "; for headerless video, add --raw WIDTHxHEIGHT:FORMAT; for other files, run 'ffmpeg -i FILE -f yuv4mpegpipe - | yuv COMMAND -'";
+const NOT_A_STREAM: &str =
+    "; for headerless video, add --raw WIDTHxHEIGHT:FORMAT; for other files, run 'ffmpeg -i FILE -f yuv4mpegpipe - | yuv COMMAND -'";
 
 /// Why a command gave up.
 #[derive(Drop)]
@@ -128,7 +129,11 @@ impl fmt::Display for Fault {
             Fault::Create(kind) => write_failed(f, "cannot create", *kind),
             Fault::Replace(kind) => write_failed(f, "cannot replace", *kind),
             Fault::Rewrite(kind) => {
-                write_failed(f, "overwritten in part; the whole output is in its .partial file", *kind)
+                write_failed(
+                    f,
+                    "overwritten in part; the whole output is in its .partial file",
+                    *kind,
+                )
             }
             Fault::Target(written, error) => write_rejection(f, *written, *error),
             Fault::Picture(PictureError::Png(PngError::Write(error))) => {

@@ -1,5 +1,5 @@
 -- What a text spells, and no other text does.
-use Rattle.std.proofs.Common.{ℕ, ◌≡◌, ◌<◌, List, [], ◌∷◌, ◌++◌, length, get_or, sym, ◌∙◌, ap, subst, arith, rules, inl, inr}
+use Rattle.std.proofs.Common.{ℕ, ◌≡◌, ◌<◌, ◌^◌, List, [], ◌∷◌, ◌++◌, length, get_or, sym, ◌∙◌, ap, subst, arith, rules, inl, inr}
 use Rattle.std.proofs.Common.{refl, map, Bool, true, false, decimal}
 use Rattle.std.specs.Char.{to_ascii_lowercase}
 use Rattle.std.specs.Cmp.Lexicographic.{bytes_decides}
@@ -8,10 +8,9 @@ use Rattle.std.specs.Str.{str_eq_ignore_ascii_case}
 use Rattle.std.proofs.lemmas.Fmt.{decimal_injective}
 use Rattle.std.proofs.lemmas.List.{get_or-map, length-map}
 use Rattle.std.specs.Prelude.{codes, None, Option, Some, ◌⊎◌}
-use Rattle.v_frame_y4m.specs.Header.{FitsRatio}
 use Rattle.v_frame_y4m.specs.declared.header.Ratio.{Ratio}
 use Rattle.v_frame_formats.specs.Formats.{common_name, ffmpeg_name, full_range_format, short_name, IsFormat, IsSameName}
-use Rattle.yuv_words.specs.Values.{IsRatio, IsRaw, IsRectangle, NamesRaw, SpellsFormat, SpellsRaw, SpellsRectangle}
+use Rattle.yuv_words.specs.Values.{IsGain, IsNumber, IsRatio, IsRatioWith, IsRaw, IsRectangle, NamesRaw, SpellsFormat, SpellsRaw, SpellsRectangle}
 use Rattle.yuv_words.specs.declared.command.RawVideo.{RawVideo}
 use Rattle.v_frame_formats.specs.declared.rectangle.Rectangle.{Rectangle}
 use Rattle.v_frame_formats.specs.declared.format.VideoFormat.{VideoFormat}
@@ -92,10 +91,44 @@ format_cut f full (Some q) text name rest lacks is spells =
       spelled = subst (IsRatio q) (sym cut.1) spells.rated.2;
     }
 
--- a text spells one ratio with a mark
-pub one_ratio : (mark : ℕ) → ¬ (IsInRange 48 57 mark) → (q r : Ratio) (text rest : List ℕ) → FitsRatio q → FitsRatio r
-    → text ≡ decimal q.numerator ++ mark ∷ decimal q.denominator → text ≡ decimal r.numerator ++ mark ∷ decimal r.denominator
-    → (q.numerator ≡ r.numerator) × (q.denominator ≡ r.denominator)
-one_ratio mark apart q r text rest fits small is other =
-    let cut = one_cut mark apart q.numerator r.numerator _ _ fits.0 small.0 (sym is ∙ other) in
-    (cut.0, decimal_injective q.denominator r.denominator fits.1 small.1 cut.1)
+-- a text that spells a ratio with 0 spells no other with this mark
+pub no_ratio : (mark : ℕ) → ¬ (IsInRange 48 57 mark) → (text rest : List ℕ) (n d : ℕ)
+    → (text ≡ decimal n ++ mark ∷ rest) × (n < 2 ^ 64) → IsNumber d rest
+    → (n ≡ 0) ⊎ ((n ≡ 0 → ⊥) × (d ≡ 0)) → (r : Ratio) → ¬ (IsRatioWith mark r text)
+no_ratio mark apart text rest n d first second (inl zero) r is =
+    let cut = one_cut mark apart n r.numerator rest (decimal r.denominator) first.1 is.1.0 (sym first.0 ∙ is.0) in
+    omega (arith, cut.0, zero, is.2)
+no_ratio mark apart text rest n d first second (inr zero) r is =
+    let cut = one_cut mark apart n r.numerator rest (decimal r.denominator) first.1 is.1.0 (sym first.0 ∙ is.0) in
+    let same = decimal_injective d r.denominator second.1 is.1.1 (sym second.0 ∙ cut.1) in
+    omega (arith, same, zero.1, is.3)
+
+-- a text without a mark spells the number of its digits, and nothing if that is no number above 0
+pub no_whole_ratio : (text : List ℕ) → ((r : Ratio) → ¬ (IsRatioWith 58 r text)) → ((r : Ratio) → ¬ (IsRatioWith 47 r text))
+    → ((n : ℕ) → IsNumber n text → n ≡ 0) → (r : Ratio) → ¬ (IsRatio r text)
+no_whole_ratio text colon slash none r (inl is) = colon r is
+no_whole_ratio text colon slash none r (inr (inl is)) = slash r is
+no_whole_ratio text colon slash none r (inr (inr is)) = omega (arith, none r.numerator is.0, is.1)
+
+-- a text spells one number
+pub one_number : (n m : ℕ) (text : List ℕ) → IsNumber n text → IsNumber m text → n ≡ m
+one_number n m text one other = decimal_injective n m one.1 other.1 (sym one.0 ∙ other.0)
+
+-- a text that spells 0 or a number above 65535 spells no gain
+pub no_gain : (text : List ℕ) (n : ℕ) → IsNumber n text → (n ≡ 0) ⊎ ((n ≡ 0 → ⊥) × (65535 < n)) → (m : ℕ)
+    → ¬ (IsGain m text)
+no_gain text n number (inl zero) m is =
+    omega (arith, one_number m n text (is.0, omega (arith, is.2)) number, zero, is.1)
+no_gain text n number (inr large) m is =
+    omega (arith, one_number m n text (is.0, omega (arith, is.2)) number, large.1, is.2)
+
+-- a text without an at sign that is no format's name spells no format
+pub no_format : (text : List ℕ) → Lacks 64 text → ((f : VideoFormat) (full : Bool) → ¬ (NamesRaw f full text))
+    → (f : VideoFormat) (full : Bool) (rate : Option Ratio) → ¬ (SpellsFormat f full rate text)
+no_format text lacks none f full None spells =
+    none f full (subst (NamesRaw f full) (sym spells.rated) spells.named)
+no_format text lacks none f full (Some q) spells =
+    let is = spells.rated.1 in
+    lacks (length spells.name) (subst (λ (t : List ℕ). length spells.name < length t) (sym is)
+    (inside spells.name spells.rated.0 64))
+    (ap (λ (t : List ℕ). get_or t (length spells.name) 0) is ∙ marked spells.name spells.rated.0 64)

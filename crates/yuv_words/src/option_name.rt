@@ -7,14 +7,14 @@ ghost use Rattle.yuv_words.specs.declared.option_name.OptionName.{OptionName as 
 
 use crate::command::CommandName;
 use crate::option_help::{
-    ASPECT, COUNT, CROP, CSV, EXACT, FORCE, FORMAT, FRAME, FRAMES, GAIN, HALF, HEADER, HISTOGRAM, JSON,
-    MATRIX, MAX_PIXELS, PLANE, PLANES, PROGRESS, RANGE, RATE, RAW, RAW_OUTPUT, RAW_SECOND, SALVAGE,
-    SKIP, SKIP_SECOND, SSIM,
+    ASPECT, COUNT, CROP, CSV, EXACT, FORCE, FORMAT, FRAME, FRAMES, GAIN, HALF, HEADER, HISTOGRAM,
+    JSON, MATRIX, MAX_PIXELS, PLANE, PLANES, PROGRESS, RANGE, RATE, RAW, RAW_OUTPUT, RAW_SECOND,
+    SALVAGE, SKIP, SKIP_SECOND, SSIM,
 };
 use crate::option_name::OptionName::{
-    Aspect, Count, Crop, Csv, Exact, Force, Format, Frame, Frames, Gain, Half, Header, Histogram, Json,
-    Matrix, MaxPixels, Plane, Planes, Progress, Range, Rate, Raw, RawOutput, RawSecond, Salvage,
-    Skip, SkipSecond, Ssim,
+    Aspect, Count, Crop, Csv, Exact, Force, Format, Frame, Frames, Gain, Half, Header, Histogram,
+    Json, Matrix, MaxPixels, Plane, Planes, Progress, Range, Rate, Raw, RawOutput, RawSecond,
+    Salvage, Skip, SkipSecond, Ssim,
 };
 
 /// An option of some command, by its name.
@@ -103,13 +103,21 @@ impl OptionName {
             Skip => ("--skip", Some("a whole number"), SKIP),
             SkipSecond => ("--skip-second", Some("a whole number"), SKIP_SECOND),
             Count => ("--count", Some("a whole number"), COUNT),
-            Crop => ("--crop", Some("X,Y,WIDTH,HEIGHT with at least 1x1 pixels"), CROP),
+            Crop => (
+                "--crop",
+                Some("X,Y,WIDTH,HEIGHT with at least 1x1 pixels"),
+                CROP,
+            ),
             Format => (
                 "--format",
                 Some("a format that 'yuv help formats' lists"),
                 FORMAT,
             ),
-            Rate => ("--rate", Some("a rate above 0, as 25, 30000:1001 or 30000/1001"), RATE),
+            Rate => (
+                "--rate",
+                Some("a rate above 0, as 25, 30000:1001 or 30000/1001"),
+                RATE,
+            ),
             Aspect => ("--aspect", Some("two numbers, as 4:3"), ASPECT),
             Frame => ("--frame", Some("a whole number"), FRAME),
             Matrix => ("--matrix", Some("bt601, bt709 or bt2020"), MATRIX),

@@ -140,8 +140,7 @@ Options (defaults are in parentheses):
 ";
 
 /// The list of formats, which `yuv help formats` prints.
-const FORMATS: &str =
-    "Formats of --raw and --format. Upper case and lower case are the same.
+const FORMATS: &str = "Formats of --raw and --format. Upper case and lower case are the same.
 
 Planar, with 8 bits a sample:
   4:2:0        yuv420p, I420, 420jpeg; 420, 420mpeg2 and 420paldv differ from
