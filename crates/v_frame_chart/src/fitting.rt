@@ -8,13 +8,23 @@ use std::num::saturating_f64_to_i64;
 /// How far apart marks are at least, in parts of the greater size of the numbers.
 const FINEST: f64 = 1e-12;
 
-/// Returns a scale with two finite numbers between its ends, and at most six steps between them.
+/// Returns a scale with two finite numbers between its ends, and at most six steps between them. If the numbers are equal, the scale
+/// begins or ends at 0.
 pub(crate) fn scale_between(low: f64, high: f64) -> Scale {
-    let apart = if low < high {
-        high / 6.0 - low / 6.0
+    if low < high {
+        scale_apart(low, high)
+    } else if low < 0.0 {
+        scale_apart(low, 0.0)
+    } else if low > 0.0 {
+        scale_apart(0.0, low)
     } else {
-        1.0
-    };
+        scale_apart(0.0, 1.0)
+    }
+}
+
+/// Returns a scale with two finite numbers between its ends, the lesser first, and at most six steps between them.
+fn scale_apart(low: f64, high: f64) -> Scale {
+    let apart = high / 6.0 - low / 6.0;
     let (digit, power) = step_from(apart.max(low.abs() * FINEST).max(high.abs() * FINEST));
     let step = value_of(digit.times(1), power);
     let mut first = whole((low / step).floor());

@@ -54,21 +54,23 @@ fn round_number(k: u32) -> u64
     }
 }
 
-/// Appends both axes, and a mark and the number of each frame whose number is a multiple of the step.
+/// Appends both axes, and a mark and the number of each frame, up to `last` after the first, whose number is a multiple of `step`. The
+/// axis extends over `span` frames after the first, which is more than `last` if there is only one frame.
 #[tactic(auto, using(crate::proofs::Appended::joins), unfolding(crate::specs::Frames::frames_text))]
 pub(crate) fn push_frames(
     text: &mut String,
     first: u64,
     span: u64,
+    last: u64,
     step: u64,
 ) -> Result<(), AllocError>
     requires some { 0 < step }
-    requires bound { span < 2 ^ 63 }
+    requires bound { last < 2 ^ 63 }
     ensures { OnOk result (string_bytes text.new ≡ string_bytes text.old
-        ++ frames_text first span step) }
+        ++ frames_text first span last step) }
 {
     push_axis_lines(text)?;
-    push_frame_marks(text, first, span, step)?;
+    push_frame_marks(text, first, span, last, step)?;
     Ok(())
 }
 
@@ -77,19 +79,25 @@ pub(crate) fn push_frames(
 fn push_axis_lines(text: &mut String) -> Result<(), AllocError>
     ensures { OnOk result (string_bytes text.new ≡ string_bytes text.old ++ axis_lines) }
 {
-    text.push_str("<path d=\"M76 64V368H924\" fill=\"none\" stroke=\"#333333\"/>\n")
+    text.push_str("<path d=\"M76 50V160H924\" fill=\"none\" stroke=\"#333333\"/>\n")
 }
 
 /// Appends a mark and the number of each frame whose number is a multiple of the step.
-fn push_frame_marks(text: &mut String, first: u64, span: u64, step: u64) -> Result<(), AllocError>
+fn push_frame_marks(
+    text: &mut String,
+    first: u64,
+    span: u64,
+    last: u64,
+    step: u64,
+) -> Result<(), AllocError>
     requires some { 0 < step }
-    requires bound { span < 2 ^ 63 }
+    requires bound { last < 2 ^ 63 }
     ensures { OnOk result (string_bytes text.new ≡ string_bytes text.old
-        ++ flat_map (frame_mark (the_across span) first) (marked_frames first span step)) }
+        ++ flat_map (frame_mark (the_across span) first) (marked_frames first last step)) }
 {
     let across = across_of(span);
     let start = first_mark(first, step);
-    for k in 0..mark_count(first, span, step) {
+    for k in 0..mark_count(first, last, step) {
         push_frame_mark(text, across, first, start + k * step)?;
     }
     Ok(())
@@ -144,7 +152,7 @@ fn push_frame_words(text: &mut String, x: Place, number: u128) -> Result<(), All
 {
     write!(
         text,
-        "<path d=\"M{x} 368V373\" stroke=\"#333333\"/>\n\
-         <text x=\"{x}\" y=\"387\" text-anchor=\"middle\">{number}</text>\n"
+        "<path d=\"M{x} 160V165\" stroke=\"#333333\"/>\n\
+         <text x=\"{x}\" y=\"177\" text-anchor=\"middle\">{number}</text>\n"
     )
 }

@@ -93,7 +93,7 @@ fn push_stroke(text: &mut String, mark: Option<Mark>) -> Result<(), AllocError>
 }
 
 /// Appends the end of a path.
-fn push_path_end(text: &mut String) -> Result<(), AllocError>
+pub(crate) fn push_path_end(text: &mut String) -> Result<(), AllocError>
     ensures { OnOk result (string_bytes text.new ≡ string_bytes text.old ++ path_end) }
 {
     text.push_str("\"/>\n")

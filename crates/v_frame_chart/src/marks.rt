@@ -36,7 +36,7 @@ pub(crate) fn marks(
 }
 
 /// Returns the frame in the middle of column `k`.
-fn middle(values: usize, columns: usize, k: usize) -> f64
+pub(crate) fn middle(values: usize, columns: usize, k: usize) -> f64
     requires { k < columns }
     ensures { result ≡ middle_of values columns k }
 {

@@ -60,8 +60,8 @@ impl Scale {
         Axis {
             low: self.value(0),
             high: self.value(self.count),
-            start: nearest_i64_to_f64(368),
-            end: nearest_i64_to_f64(64),
+            start: nearest_i64_to_f64(160),
+            end: nearest_i64_to_f64(50),
         }
     }
 }

@@ -11,7 +11,7 @@ use std::rt::Files;
 use std::time::Clock;
 use v_frame::frame::Frame;
 use v_frame::pixel::Pixel;
-use v_frame_chart::{Chart, Series, svg};
+use v_frame_chart::{Chart, Series, push_text, svg};
 use v_frame_measures::{FrameMeasure, frame_ssim, frames_have_one_size};
 use v_frame_streams::{
     CompareOptions, FrameObserver, Place, PlaneSums, Progress, Source, StreamError, compare_streams,
@@ -95,7 +95,7 @@ fn drawn<R: io::Read, S: io::Read, P: Progress>(
     let taken = frames_taken(options);
     let found = compare_streams(alloc, first, second, &taken, &mut curves, progress)?;
     test_compared(&found, first, second, &taken)?;
-    match curves.chart(alloc, names) {
+    match curves.chart(alloc, names, found.shows_the_same()) {
         Ok(text) => Ok(text),
         Err(_) => Err(Fault::Stream(no_memory())),
     }
@@ -223,25 +223,75 @@ impl Curves {
         }
     }
 
-    /// Returns the charts, one above the other.
-    fn chart(&self, alloc: Global, (first, second): (&str, &str)) -> Result<String, AllocError> {
-        let title = format!(in alloc; "{first} and {second}")?;
-        let psnr = self
-            .psnr
-            .chart(alloc, title.as_str(), "PSNR (dB)", self.first)?;
-        if self.ssim.y.is_empty() {
-            return Ok(psnr);
-        }
-        let ssim = self.ssim.chart(alloc, title.as_str(), "SSIM", self.first)?;
+    /// Returns the charts, one above the other, with the names of both files above them.
+    fn chart(
+        &self,
+        alloc: Global,
+        (first, second): (&str, &str),
+        are_same: bool,
+    ) -> Result<String, AllocError> {
+        let psnr = self.psnr.chart(alloc, "PSNR", "dB", self.first)?;
         let mut text = String::new(alloc);
-        text.push_str("<svg xmlns=\"http://www.w3.org/2000/svg\" width=\"960\" height=\"840\" ")?;
-        text.push_str("viewBox=\"0 0 960 840\">\n")?;
+        if self.ssim.y.is_empty() {
+            push_head(&mut text, 220)?;
+        } else {
+            push_head(&mut text, 420)?;
+        }
+        push_names(alloc, &mut text, first, second, are_same)?;
+        text.push_str("<g transform=\"translate(0 20)\">\n")?;
         text.push_str(psnr.as_str())?;
-        text.push_str("<g transform=\"translate(0 420)\">\n")?;
-        text.push_str(ssim.as_str())?;
-        text.push_str("</g>\n</svg>\n")?;
+        text.push_str("</g>\n")?;
+        if !self.ssim.y.is_empty() {
+            let ssim = self.ssim.chart(alloc, "SSIM", "", self.first)?;
+            text.push_str("<g transform=\"translate(0 220)\">\n")?;
+            text.push_str(ssim.as_str())?;
+            text.push_str("</g>\n")?;
+        }
+        text.push_str("</svg>\n")?;
         Ok(text)
     }
+}
+
+/// Appends the head of a white picture of this height.
+fn push_head(text: &mut String, height: usize) -> Result<(), AllocError> {
+    write!(
+        text,
+        "<svg xmlns=\"http://www.w3.org/2000/svg\" width=\"960\" height=\"{height}\" viewBox=\"0 0 960 {height}\">\n\
+         <rect width=\"960\" height=\"{height}\" fill=\"#ffffff\"/>\n"
+    )
+}
+
+/// Appends the names of two files, and whether their frames are the same.
+fn push_names(
+    alloc: Global,
+    text: &mut String,
+    first: &str,
+    second: &str,
+    are_same: bool,
+) -> Result<(), AllocError> {
+    let one = shortened(alloc, first)?;
+    let other = shortened(alloc, second)?;
+    let (one, other) = (one.as_str(), other.as_str());
+    let names = if are_same {
+        format!(in alloc; "{one} and {other}: all frames are identical")?
+    } else {
+        format!(in alloc; "{one} and {other}")?
+    };
+    push_text(text, "x=\"76\" y=\"15\" font-family=\"sans-serif\" font-size=\"13\" fill=\"#333333\"", names.as_str())
+}
+
+/// Returns a name with at most 48 characters: of a longer one the first and the last, and three dots between them.
+fn shortened(alloc: Global, name: &str) -> Result<String, AllocError> {
+    let count = name.chars().count();
+    let mut text = String::new(alloc);
+    for (k, letter) in name.chars().enumerate() {
+        if count <= 48 || k < 22 || k >= count - 23 {
+            text.push(letter)?;
+        } else if k == 22 {
+            text.push_str("...")?;
+        }
+    }
+    Ok(text)
 }
 
 impl<T: Pixel> FrameObserver<T> for Curves {

@@ -63,10 +63,36 @@ fn run(room: &Room, words: &[&str]) -> Output {
     Command::new(env!("CARGO_BIN_EXE_yuv")).args(words).current_dir(room.folder()).output().expect("an output")
 }
 
-/// Returns the chart of a measure: what Y, U and V have in the frames from the second on.
-fn chart(unit: &str, [y, u, v]: [[f64; 2]; 3]) -> String {
+/// Returns the chart of a measure: the values of Y, U and V in the frames from the second on.
+fn chart(title: &str, unit: &str, [y, u, v]: [[f64; 2]; 3]) -> String {
     let series = [("Y", &y), ("U", &u), ("V", &v)].map(|(name, values)| Series { name, values });
-    svg(&Chart { title: "one.y4m and other.y4m", unit, first: 2, series: &series }).expect("drawn")
+    svg(&Chart { title, unit, first: 2, series: &series }).expect("drawn")
+}
+
+/// Returns the head of a plot of this height, up to the names of the files.
+fn head_of(height: usize) -> String {
+    format!(
+        "<svg xmlns=\"http://www.w3.org/2000/svg\" width=\"960\" height=\"{height}\" viewBox=\"0 0 960 {height}\">\n\
+         <rect width=\"960\" height=\"{height}\" fill=\"#ffffff\"/>\n\
+         <text x=\"76\" y=\"15\" font-family=\"sans-serif\" font-size=\"13\" fill=\"#333333\">"
+    )
+}
+
+/// A plot of identical videos says so, marks each frame, and has no SSIM if planes are small. Long names are shortened in the middle.
+#[test]
+fn a_plot_names_its_files_and_says_if_they_are_identical() {
+    let room = Room::new("plots");
+    let output = run(&room, &["plot", "mono_7x5.y4m", "mono_7x5.y4m", "-"]);
+    let text = String::from_utf8_lossy(&output.stdout).into_owned();
+    let head = format!("{}mono_7x5.y4m and mono_7x5.y4m: all frames are identical</text>\n", head_of(220));
+    assert!(output.status.code() == Some(0) && text.starts_with(&head) && !text.contains("SSIM"), "{text}");
+    assert!(text.contains(">marks at the top: infinite, as of identical frames</text>"), "{text}");
+    for (count, shown) in [(48, "n".repeat(44) + ".y4m"), (49, "n".repeat(22) + "..." + &"n".repeat(19) + ".y4m")] {
+        let name = "n".repeat(count - 4) + ".y4m";
+        fs::copy(room.folder().join("mono_7x5.y4m"), room.folder().join(&name)).expect("a copy");
+        let text = String::from_utf8(run(&room, &["plot", &name, "mono_7x5.y4m", "-"]).stdout).expect("text");
+        assert!(text.contains(&format!(">{shown} and mono_7x5.y4m: all frames are identical<")), "{text}");
+    }
 }
 
 /// Of flat planes that are `d` apart the ratio is 20 log10(1023 / d), and the similarity that of the means, both by Python.
@@ -75,22 +101,23 @@ fn a_plot_draws_both_measures_of_each_plane() {
     let room = Room::new("plot");
     let write = |name: &str, frames: &[_]| fs::write(room.folder().join(name), flat_stream(10, frames)).expect("a file");
     write("one.y4m", &[[400, 500, 600]; 3]);
-    write("other.y4m", &[[401, 502, 604], [408, 516, 632], [403, 505, 607]]);
+    write("other.y4m", &[[401, 502, 604], [408, 516, 632], [404, 505, 607]]);
     let words = ["plot", "one.y4m", "other.y4m", "-", "--skip=1"];
     let output = run(&room, &words);
     let ratios = [
-        [42.135712934404324, 50.65508757984995],
+        [42.135712934404324, 48.15631284768395],
         [36.11511302112471, 46.218112587522825],
         [30.09451310784508, 43.29555187395806],
     ];
     let similarities = [
-        [0.9998039609897984, 0.9999720852880895],
+        [0.9998039609897984, 0.9999504977505715],
         [0.9995041235566926, 0.9999504976604107],
         [0.9986516125444492, 0.9999327339456806],
     ];
-    let (ratios, similarities) = (chart("PSNR (dB)", ratios), chart("SSIM", similarities));
-    let head = "<svg xmlns=\"http://www.w3.org/2000/svg\" width=\"960\" height=\"840\" viewBox=\"0 0 960 840\">\n";
-    let wanted = format!("{head}{ratios}<g transform=\"translate(0 420)\">\n{similarities}</g>\n</svg>\n");
+    let (ratios, similarities) = (chart("PSNR", "dB", ratios), chart("SSIM", "", similarities));
+    let head = format!("{}{}</text>\n", head_of(420), "one.y4m and other.y4m");
+    let ratios = format!("<g transform=\"translate(0 20)\">\n{ratios}</g>\n");
+    let wanted = format!("{head}{ratios}<g transform=\"translate(0 220)\">\n{similarities}</g>\n</svg>\n");
     assert_eq!((output.status.code(), String::from_utf8_lossy(&output.stdout)), (Some(0), wanted.into()));
 }
 
