@@ -1,5 +1,5 @@
 //! The command `compare`: how far two streams are apart.
-ghost use Rattle.std.specs.Prelude.{◌≡◌, ◌≢◌, ◌<◌, ◌↔◌, ◌⊎◌, is_some, unwrap_or, IfOk, IsNone, IsTrue, OnOk};
+ghost use Rattle.std.specs.Prelude.{◌≡◌, ◌≢◌, ◌<◌, ◌↔◌, ◌⊎◌, is_some, unwrap_or, IfOk, Ok, IsNone, IsTrue, OnOk};
 ghost use Rattle.v_frame.specs.Prelude.{one_byte, two_bytes};
 ghost use Rattle.v_frame_y4m.specs.Color.{depth_of};
 ghost use Rattle.yuv_system.specs.Options.{comparison_of};
@@ -11,6 +11,7 @@ ghost use Rattle.yuv_words.specs.declared.command.CommandName.TheVariants.{Compa
 
 use crate::frame_report::FrameReport;
 use crate::measures::{Means, Scale};
+use crate::so_far::Above;
 use std::alloc::Global;
 use std::fs::OpenFile;
 use std::io;
@@ -19,13 +20,14 @@ use std::time::Clock;
 use v_frame::chroma::ChromaSubsampling;
 use v_frame_planar::subsample_ratio_or_one;
 use v_frame_streams::{
-    Comparison, FrameObserver, Place, PlaneSums, Progress, Source, StreamError, compare_streams,
+    Comparison, FrameObserver, Place, PlaneSums, Progress, Source, StreamError, check_formats,
+    compare_streams,
 };
 use v_frame_y4m::StreamHeader;
 use yuv_reports::{Report, ReportForm};
 use yuv_system::{
-    Fault, ProgressLine, Status, System, begin, expected_frames, open_file, stream_comparison,
-    test_compared,
+    Fault, ProgressLine, Status, System, begin, expected_frames, header_differences, is_broken,
+    open_file, stream_comparison, test_compared, write_above, write_differences,
 };
 use yuv_words::{Call, Options};
 
@@ -59,10 +61,35 @@ where
         test_windows(one.header())?;
     }
     system.progress.expect(expected_frames(&one, len));
+    check_formats(&one, &other)?;
+    warn_of_headers(
+        system.progress.out(),
+        options,
+        one.header(),
+        other.header(),
+    );
     let out = &mut system.output;
     let progress = &mut system.progress;
-    let (_out, found) = report_comparison(alloc, &mut one, &mut other, options, out, progress)?;
+    let mut above = Above::new();
+    let compared = report_comparison(
+        alloc, &mut one, &mut other, options, out, progress, &mut above,
+    );
+    write_above(system.progress.out(), first, &one, above.first);
+    write_above(system.progress.out(), second, &other, above.second);
+    let (_out, found) = compared?;
     Ok(comparison_status(&found))
+}
+
+/// Warns where the headers of two streams disagree on what a comparison of samples does not show. Raw video has no header.
+pub(crate) fn warn_of_headers<E: io::Write>(
+    messages: &mut E,
+    options: &Options,
+    first: &StreamHeader,
+    second: &StreamHeader,
+) {
+    if options.raw.is_none() && options.raw_second.is_none() {
+        write_differences(messages, &header_differences(first, second));
+    }
 }
 
 /// Reports how far two streams are apart, and returns the writer and what was found.
@@ -73,6 +100,7 @@ fn report_comparison<R: io::Read, S: io::Read, W: io::Write + Drop, H: Clock, E:
     options: &Options,
     out: W,
     progress: &mut ProgressLine<'_, H, E>,
+    above: &mut Above,
 ) -> Result<(W, Comparison), Fault>
     ensures bytes { depth_of first.old.header.color ≡ 8 → IfOk result (λ done.
         ComparesFrom one_byte (sizes_in first.old.header)
@@ -95,11 +123,39 @@ fn report_comparison<R: io::Read, S: io::Read, W: io::Write + Drop, H: Clock, E:
     let scale = scale_of(first.header(), options);
     let before = first_taken(options);
     let mut observer = FrameReport::new(alloc, out, report, scale, means_of(options), before);
-    let found = compare_sources(alloc, first, second, options, &mut observer, progress)?;
+    observer.count_second_from(stream_comparison(options).skip_second);
+    let compared = compare_sources(alloc, first, second, options, &mut observer, progress);
+    *above = observer.above();
+    let found = compared_or_broken(compared, &mut observer, progress)?;
     test_compared(&found, first, second, &stream_comparison(options))?;
     progress.end();
     observer.end(&found)?;
     Ok((observer.into_out(), found))
+}
+
+/// Returns what was found. If a stream breaks off, what was found before is written first.
+///
+/// # Errors
+///
+/// Those of the comparison, and those of the report.
+fn compared_or_broken<W: io::Write, H: Clock, E: io::Write>(
+    compared: Result<Comparison, StreamError>,
+    observer: &mut FrameReport<W>,
+    progress: &mut ProgressLine<'_, H, E>,
+) -> Result<Comparison, Fault>
+    ensures found { IfOk result (λ found. compared ≡ Ok found) }
+    ensures same { OnOk result (observer.new ≡ observer.old) }
+{
+    match compared {
+        Ok(found) => Ok(found),
+        Err(error) => {
+            if is_broken(&error) {
+                progress.end();
+                observer.end_broken(&error)?;
+            }
+            Err(Fault::Stream(error))
+        }
+    }
 }
 
 /// Returns how many frames of the first stream stand before the first one that is compared.

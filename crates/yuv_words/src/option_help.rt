@@ -101,11 +101,13 @@ pub(crate) const FRAME: &str = "--frame N         which frame, counted from 1 (1
 
 /// Of `--matrix`.
 pub(crate) const MATRIX: &str =
-    "--matrix M        the standard of the colors: bt601, bt709 or bt2020 (bt709)\n";
+    "--matrix M        the standard of the colors: bt601, bt709 or bt2020 (bt601 up to
+                  576 rows, bt709 above)\n";
 
 /// Of `--range`.
 pub(crate) const RANGE: &str =
-    "--range R         the range of the samples: limited or full (limited)\n";
+    "--range R         the range of the samples: limited or full (limited, unless the
+                  header says full)\n";
 
 /// Of `--plane`.
 pub(crate) const PLANE: &str = "--plane P         shows one plane in gray: y, u or v\n";

@@ -113,6 +113,7 @@ fn faults_of_commands() {
             ("Nothing", Fault::Nothing(Place::First, nothing(0, Some(0)))),
             ("NoFrame", Fault::NoFrame(Place::First, 2)),
             ("FrameZero", Fault::FrameZero),
+            ("SwapsFields", Fault::SwapsFields { place: Place::First, from: 2, nearest: 4 }),
             ("NoWindow", Fault::NoWindow(Place::First)),
         ],
     );

@@ -23,7 +23,7 @@ returns-in-None g c =
     let frame = c.frame.result.now in
     let same = c.frame.ensures.value in
     IfOk-weaker c.write_picture.result
-    (λ new. IsSomeAnd (drawing_asked form frame options) (λ drawing. HasFile contents start new drawing.0 drawing.1))
+    (λ new. IsSomeAnd (drawing_asked form frame options source.header) (λ drawing. HasFile contents start new drawing.0 drawing.1))
     (ShowsFrame (stream_of source) (bytes_left g.R.Read.remaining source)
     (bytes_left g.R.Read.remaining c.read_picture.new.source) options form contents start)
     (λ new file. record {
@@ -50,7 +50,7 @@ returns g c =
     let cut = c.in_ok-frame-in-Some.ensures in
     let same : picture.frame.subsampling ≡ subsampling_of source.header.color = ap (λ (f : Format). f.0) read.format in
     IfOk-weaker c.write_picture-in-Some.result
-    (λ new. IsSomeAnd (drawing_asked form made options) (λ drawing. HasFile contents start new drawing.0 drawing.1))
+    (λ new. IsSomeAnd (drawing_asked form made options source.header) (λ drawing. HasFile contents start new drawing.0 drawing.1))
     (ShowsFrame (stream_of source) (bytes_left g.R.Read.remaining source)
     (bytes_left g.R.Read.remaining c.read_picture.new.source) options form contents start)
     (λ new file. record {
