@@ -1,5 +1,5 @@
 //! The command `compare`: how far two streams are apart.
-ghost use Rattle.std.specs.Prelude.{◌≡◌, ◌≢◌, ◌<◌, ◌↔◌, ◌⊎◌, is_some, unwrap_or, IfOk, Ok, IsNone, IsTrue, OnOk};
+ghost use Rattle.std.specs.Prelude.{◌≡◌, ◌≢◌, ◌<◌, ◌↔◌, ◌⊎◌, is_some, unwrap_or, IfOk, IsNone, IsTrue, OnOk};
 ghost use Rattle.v_frame.specs.Prelude.{one_byte, two_bytes};
 ghost use Rattle.v_frame_y4m.specs.Color.{depth_of};
 ghost use Rattle.yuv_system.specs.Options.{comparison_of};
@@ -122,39 +122,37 @@ fn report_comparison<R: io::Read, S: io::Read, W: io::Write + Drop, H: Clock, E:
     let report = Report::new(options.form, lists_frames(options));
     let scale = scale_of(first.header(), options);
     let before = first_taken(options);
-    let mut observer = FrameReport::new(alloc, out, report, scale, means_of(options), before);
-    observer.count_second_from(stream_comparison(options).skip_second);
-    let compared = compare_sources(alloc, first, second, options, &mut observer, progress);
+    let means = means_of(options);
+    let second_before = options.skip_second.unwrap_or(before);
+    let mut observer = FrameReport::new(alloc, out, report, scale, means, before, second_before);
+    let found = match compare_sources(alloc, first, second, options, &mut observer, progress) {
+        Ok(found) => found,
+        Err(error) => {
+            *above = observer.above();
+            return Err(report_broken(error, &mut observer, progress));
+        }
+    };
     *above = observer.above();
-    let found = compared_or_broken(compared, &mut observer, progress)?;
     test_compared(&found, first, second, &stream_comparison(options))?;
     progress.end();
     observer.end(&found)?;
     Ok((observer.into_out(), found))
 }
 
-/// Returns what was found. If a stream breaks off, what was found before is written first.
-///
-/// # Errors
-///
-/// Those of the comparison, and those of the report.
-fn compared_or_broken<W: io::Write, H: Clock, E: io::Write>(
-    compared: Result<Comparison, StreamError>,
+/// Writes what was found before a stream breaks off, where one does. Returns the fault of the comparison, or that of the report if it
+/// cannot be written.
+fn report_broken<W: io::Write, H: Clock, E: io::Write>(
+    error: StreamError,
     observer: &mut FrameReport<W>,
     progress: &mut ProgressLine<'_, H, E>,
-) -> Result<Comparison, Fault>
-    ensures found { IfOk result (λ found. compared ≡ Ok found) }
-    ensures same { OnOk result (observer.new ≡ observer.old) }
-{
-    match compared {
-        Ok(found) => Ok(found),
-        Err(error) => {
-            if is_broken(&error) {
-                progress.end();
-                observer.end_broken(&error)?;
-            }
-            Err(Fault::Stream(error))
-        }
+) -> Fault {
+    if !is_broken(&error) {
+        return Fault::Stream(error);
+    }
+    progress.end();
+    match observer.end_broken(&error) {
+        Ok(()) => Fault::Stream(error),
+        Err(unwritten) => Fault::Stream(unwritten),
     }
 }
 

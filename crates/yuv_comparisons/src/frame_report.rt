@@ -49,12 +49,14 @@ impl<W: io::Write> FrameReport<W> {
         scale: Scale,
         ssim: Option<Means>,
         before: u64,
+        before_second: u64,
     ) -> Self
         ensures out { result.out ≡ out }
         ensures report { result.report ≡ report }
         ensures scale { result.scale ≡ scale }
         ensures ssim { result.ssim ≡ ssim }
         ensures before { result.before ≡ before }
+        ensures before_second { result.before_second ≡ before_second }
         ensures frames { result.frames ≡ 0 }
     {
         FrameReport {
@@ -65,19 +67,12 @@ impl<W: io::Write> FrameReport<W> {
             ssim,
             alloc,
             before,
-            before_second: before,
+            before_second,
             frames: 0,
             is_begun: false,
             so_far: SoFar::new(),
             above: Above::new(),
         }
-    }
-
-    /// Gives the frames of the second stream the numbers that they have if so many frames precede the first one that is compared.
-    pub(crate) fn count_second_from(&mut self, before_second: u64)
-        ensures { self.new ≡ record self.old { before_second = before_second } }
-    {
-        self.before_second = before_second;
     }
 
     /// Returns the first frame of each stream that has samples above its bit depth.

@@ -118,15 +118,21 @@ fn show_frame<T: Pixel, R: io::Read, W: io::Write + Drop>(
 {
     let colors = colors_of(options, source.header());
     let picture = read_picture::<T, _>(alloc, source, options)?;
-    if source.header().color.bit_depth() > 8 && has_sample_above(picture.frame()) {
-        *above = Some(options.frame.unwrap_or(1));
-    }
+    note_above(&picture.frame, options.frame, above);
     match &options.crop {
         None => write_picture(alloc, out, picture.frame(), options.plane, colors),
         Some(part) => {
             let frame = crop_picture(alloc, source, &picture, part)?;
             write_picture(alloc, out, &frame, options.plane, colors)
         }
+    }
+}
+
+/// Notes the number of a frame, 1 unless one is asked for, if the frame has a sample above the greatest value of its bit depth. No sample
+/// of 8 bits is above them.
+fn note_above<T: Pixel>(frame: &Frame<T>, number: Option<u64>, above: &mut Option<u64>) {
+    if frame.bit_depth.get() > 8 && has_sample_above(frame) {
+        *above = Some(number.unwrap_or(1));
     }
 }
 

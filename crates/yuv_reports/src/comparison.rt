@@ -195,19 +195,18 @@ impl Report {
         ensures empty { self.now.form ≡ ReportForm.Json → found.now.frames ≡ 0
             → OnOk result (EndsWith no_frames (string_bytes text.new)) }
     {
-        match self.form {
-            ReportForm::Lines if found.frames == 0 => Ok(()),
-            ReportForm::Lines => lines::push_comparison(text, found),
-            ReportForm::Csv => Ok(()),
-            ReportForm::Json => {
-                let lists = self.lists_frames && self.frames > 0;
-                text.push_str(if lists { "\n  ],\n" } else { "],\n" })?;
-                json::push_error(text, error)?;
-                if found.frames == 0 {
-                    return json::push_no_frames(text);
-                }
-                json::push_summary(text, found, &self.psnr, &self.ssim)
-            }
+        if self.form == ReportForm::Lines && found.frames == 0 {
+            return Ok(());
         }
+        if self.form != ReportForm::Json {
+            return self.end(text, found);
+        }
+        let lists = self.lists_frames && self.frames > 0;
+        text.push_str(if lists { "\n  ],\n" } else { "],\n" })?;
+        json::push_error(text, error)?;
+        if found.frames == 0 {
+            return json::push_no_frames(text);
+        }
+        json::push_summary(text, found, &self.psnr, &self.ssim)
     }
 }
