@@ -3,7 +3,7 @@ ghost use Rattle.std.specs.Prelude.{◌≡◌, ◌+◌, ◌-◌, ◌^◌, min, u
 ghost use Rattle.yuv_system.specs.Options.{plot_of};
 ghost use Rattle.yuv_words.specs.declared.command.CommandName.TheVariants.{Plot};
 
-use crate::compare::samples_of;
+use crate::compare::{samples_of, warn_of_headers};
 use crate::measures::Scale;
 use std::alloc::{AllocError, Global};
 use std::io::{self, Write};
@@ -14,11 +14,12 @@ use v_frame::pixel::Pixel;
 use v_frame_chart::{Chart, Series, push_text, svg};
 use v_frame_measures::{FrameMeasure, frame_ssim, frames_have_one_size};
 use v_frame_streams::{
-    CompareOptions, FrameObserver, Place, PlaneSums, Progress, Source, StreamError, compare_streams,
+    CompareOptions, FrameObserver, Place, PlaneSums, Progress, Source, StreamError, check_formats,
+    compare_streams,
 };
 use yuv_files::{FileKind, SystemFile};
 use yuv_system::{
-    Fault, Output, Status, System, Target, begin, expected_frames, no_memory, open_file,
+    Fault, Output, Status, System, Target, begin, expected_frames, is_broken, no_memory, open_file,
     taken_of_both, test_compared, test_target, write_text,
 };
 use yuv_words::{Call, Options};
@@ -55,15 +56,26 @@ where
     let mut one = begin(system, first, &mut file, options.raw)?;
     let mut other_file = open_file(rt, second, Place::Second, &mut system.input)?;
     let mut other = begin(system, second, &mut other_file, options.raw_second)?;
+    check_formats(&one, &other)?;
+    warn_of_headers(
+        system.progress.out(),
+        options,
+        one.header(),
+        other.header(),
+    );
     system.progress.expect(expected_frames(&one, len));
     let progress = &mut system.progress;
     let names = (first, second);
-    let text = drawn(rt.alloc(), &mut one, &mut other, options, names, progress)?;
+    let (text, broken) = drawn(rt.alloc(), &mut one, &mut other, options, names, progress)?;
     system.progress.end();
     let mut output = Output::open(rt, &target, &mut system.output, system.progress.out())?;
     let done = write_drawn(&mut output, text.as_str());
     drop(text);
-    output.settle(rt, done)
+    let status = output.settle(rt, done)?;
+    match broken {
+        Some(error) => Err(Fault::Stream(error)),
+        None => Ok(status),
+    }
 }
 
 /// Writes the chart.
@@ -74,7 +86,8 @@ fn write_drawn<W: Write + Drop>(mut out: W, text: &str) -> Result<Status, Fault>
     }
 }
 
-/// Returns the chart of what is taken of both streams.
+/// Returns the chart of what is taken of both streams. If one of them breaks off, the chart has the frames before, and the error is
+/// returned with it.
 fn drawn<R: io::Read, S: io::Read, P: Progress>(
     alloc: Global,
     first: &mut Source<R>,
@@ -82,7 +95,7 @@ fn drawn<R: io::Read, S: io::Read, P: Progress>(
     options: &Options,
     names: (&str, &str),
     progress: &mut P,
-) -> Result<String, Fault> {
+) -> Result<(String, Option<StreamError>), Fault> {
     let mut curves = Curves::new(
         alloc,
         first_frame(options),
@@ -93,10 +106,22 @@ fn drawn<R: io::Read, S: io::Read, P: Progress>(
         },
     );
     let taken = frames_taken(options);
-    let found = compare_streams(alloc, first, second, &taken, &mut curves, progress)?;
-    test_compared(&found, first, second, &taken)?;
-    match curves.chart(alloc, names, found.shows_the_same()) {
-        Ok(text) => Ok(text),
+    let mut are_same = false;
+    let broken = match compare_streams(alloc, first, second, &taken, &mut curves, progress) {
+        Ok(found) => {
+            test_compared(&found, first, second, &taken)?;
+            are_same = found.shows_the_same();
+            None
+        }
+        Err(error) => {
+            if !is_broken(&error) || curves.psnr.y.is_empty() {
+                return Err(Fault::Stream(error));
+            }
+            Some(error)
+        }
+    };
+    match curves.chart(alloc, names, are_same) {
+        Ok(text) => Ok((text, broken)),
         Err(_) => Err(Fault::Stream(no_memory())),
     }
 }

@@ -1,6 +1,6 @@
 //! What is reported of two streams that are compared.
-ghost use Rattle.std.specs.Prelude.{◌≡◌, ◌==◌, ◌+◌, ◌-◌, ◌^◌, ◌++◌, is_some, min, string_bytes, MatchBool, OnOk};
-ghost use Rattle.yuv_reports.specs.Frames.{end_of_report, AppendsNext};
+ghost use Rattle.std.specs.Prelude.{◌≡◌, ◌≢◌, ◌==◌, ◌+◌, ◌-◌, ◌^◌, ◌++◌, is_some, min, string_bytes, MatchBool, OnOk};
+ghost use Rattle.yuv_reports.specs.Frames.{end_of_report, no_frames, AppendsNext};
 ghost use Rattle.yuv_reports.specs.Sums.{begin_of};
 ghost use Rattle.yuv_reports.specs.Texts.{EndsWith};
 
@@ -170,5 +170,43 @@ impl Report {
                 json::push_summary(text, found, &self.psnr, &self.ssim)
             }
         }
+    }
+
+    /// Appends what is said of the frames before the one at which a stream breaks off. In an object `error` says why. Without a frame
+    /// nothing is said in lines, and an object has a list of no frames.
+    ///
+    /// # Errors
+    ///
+    /// [`AllocError`] where there is no memory for the text.
+    pub fn end_broken(
+        &self,
+        text: &mut String,
+        found: &Comparison,
+        error: &str,
+    ) -> Result<(), AllocError>
+        ensures csv { self.now.form ≡ ReportForm.Csv
+            → string_bytes text.new ≡ string_bytes text.old }
+        ensures nothing { self.now.form ≡ ReportForm.Lines → found.now.frames ≡ 0
+            → string_bytes text.new ≡ string_bytes text.old }
+        ensures ended { self.now.form ≡ ReportForm.Lines → found.now.frames ≢ 0
+            → OnOk result (EndsWith (end_of_report self.now.form found.now) (string_bytes text.new)) }
+        ensures closed { self.now.form ≡ ReportForm.Json → found.now.frames ≢ 0
+            → OnOk result (EndsWith (end_of_report self.now.form found.now) (string_bytes text.new)) }
+        ensures empty { self.now.form ≡ ReportForm.Json → found.now.frames ≡ 0
+            → OnOk result (EndsWith no_frames (string_bytes text.new)) }
+    {
+        if self.form == ReportForm::Lines && found.frames == 0 {
+            return Ok(());
+        }
+        if self.form != ReportForm::Json {
+            return self.end(text, found);
+        }
+        let lists = self.lists_frames && self.frames > 0;
+        text.push_str(if lists { "\n  ],\n" } else { "],\n" })?;
+        json::push_error(text, error)?;
+        if found.frames == 0 {
+            return json::push_no_frames(text);
+        }
+        json::push_summary(text, found, &self.psnr, &self.ssim)
     }
 }

@@ -1,6 +1,6 @@
 //! One JSON object: a list of frames, and a summary. JSON has no infinity: a ratio that is infinite is `null`.
 ghost use Rattle.std.specs.Prelude.{◌≡◌, ◌++◌, codes, string_bytes, OnOk};
-ghost use Rattle.yuv_reports.specs.Frames.{difference_object, json_end, longer_member, place_members, sample_object, AppendsFrame};
+ghost use Rattle.yuv_reports.specs.Frames.{difference_object, json_end, longer_member, no_frames, place_members, sample_object, AppendsFrame};
 ghost use Rattle.yuv_reports.specs.Sums.{members_end};
 ghost use Rattle.yuv_reports.specs.Texts.{EndsWith};
 ghost use Rattle.yuv_reports.specs.declared.comparison.ReportForm.{ReportForm};
@@ -95,6 +95,32 @@ fn push_sums(text: &mut String, between: &str, sums: &Option<PlaneSums>) -> Resu
     push_sum(text, ", \"u\": ", sums.u)?;
     push_sum(text, ", \"v\": ", sums.v)?;
     text.push('}')
+}
+
+/// Appends the member that says why a stream breaks off.
+pub fn push_error(text: &mut String, error: &str) -> Result<(), AllocError> {
+    text.push_str("  \"error\": \"")?;
+    for letter in error.chars() {
+        push_escaped(text, letter)?;
+    }
+    text.push_str("\",\n")
+}
+
+/// Appends the count of no frames, and the end of the object.
+pub fn push_no_frames(text: &mut String) -> Result<(), AllocError>
+    ensures { OnOk result (EndsWith no_frames (string_bytes text.new)) }
+{
+    text.push_str("  \"count\": 0\n}\n")
+}
+
+/// Appends a character of a string. A control character becomes a space.
+fn push_escaped(text: &mut String, letter: char) -> Result<(), AllocError> {
+    match letter {
+        '"' => text.push_str("\\\""),
+        '\\' => text.push_str("\\\\"),
+        _ if u32::from(letter) < 32 => text.push(' '),
+        _ => text.push(letter),
+    }
 }
 
 /// Appends the members after the list of frames, and the end of the object.

@@ -2,7 +2,7 @@
 ghost use Rattle.std.specs.Prelude.{◌≡◌, ◌++◌, ◌∷◌, ◌<◌, [], string_bytes, OnOk};
 ghost use Rattle.std.specs.Char.{digit_char};
 ghost use Rattle.yuv_reports.specs.Histograms.{histogram_row, histogram_rows};
-ghost use Rattle.yuv_reports.specs.Samples.{checksum_word, checksums_line, chroma_words, statistics_end, statistics_front, sum_words, AppendsStatistics};
+ghost use Rattle.yuv_reports.specs.Samples.{above_said, checksum_word, checksums_line, chroma_words, statistics_end, statistics_front, sum_words, AppendsStatistics};
 
 use crate::planes::push_number;
 use std::alloc::{AllocError, Global};
@@ -19,8 +19,12 @@ pub struct SampleStatistics {
     pub maximum: u16,
     /// The mean of the values.
     pub mean: f64,
-    /// How many samples are outside the nominal range of their depth.
+    /// How many samples are outside the nominal range, without those above `most`.
     pub outside: u64,
+    /// The greatest value of the bit depth.
+    pub most: u16,
+    /// How many samples are above `most`.
+    pub above: u64,
 }
 
 /// Appends the line of a plane, with its mean in two decimals.
@@ -60,7 +64,20 @@ fn push_outside(text: &mut String, found: &SampleStatistics) -> Result<(), Alloc
         ≡ string_bytes text.old ++ statistics_end found.now) }
 {
     let outside = found.outside;
-    writeln!(text, ", outside the nominal range {outside}")
+    write!(text, ", outside the nominal range {outside}")?;
+    push_above(text, found.most, found.above)?;
+    text.push('\n')
+}
+
+/// Appends how many samples are above the greatest value of the bit depth, if any is.
+fn push_above(text: &mut String, most: u16, above: u64) -> Result<(), AllocError>
+    ensures { OnOk result (string_bytes text.new
+        ≡ string_bytes text.old ++ above_said most above) }
+{
+    if above == 0 {
+        return Ok(());
+    }
+    write!(text, ", above {most}: {above}")
 }
 
 /// Appends a row `plane,value,count` for each value that occurs.

@@ -1,6 +1,6 @@
 //! Why a command gave up.
-ghost use Rattle.std.specs.Prelude.{◌≡◌};
-ghost use Rattle.yuv_system.specs.Faults.{place_of};
+ghost use Rattle.std.specs.Prelude.{◌≡◌, ◌↔◌, IsTrue};
+ghost use Rattle.yuv_system.specs.Faults.{place_of, IsBroken};
 
 use crate::nothing::NothingTaken;
 use std::{fmt, io};
@@ -51,6 +51,16 @@ pub enum Fault {
     NoFrame(Place, u64),
     /// Frames are counted from 1.
     FrameZero,
+    /// A crop of the interlaced stream of that place begins at row `from`, which swaps its fields. The nearest row that does not is
+    /// `nearest`.
+    SwapsFields {
+        /// The stream.
+        place: Place,
+        /// The row of the crop.
+        from: usize,
+        /// The nearest row that keeps the fields.
+        nearest: usize,
+    },
     /// A plane of the stream of that place is smaller than a window of structural similarity.
     NoWindow(Place),
 }
@@ -70,6 +80,7 @@ impl Fault {
             | Fault::Nothing(place, _)
             | Fault::NoFrame(place, _)
             | Fault::NoWindow(place) => Some(*place),
+            Fault::SwapsFields { place, .. } => Some(*place),
             Fault::Header(error) | Fault::Stream(error) | Fault::Report(error) => {
                 Some(error.place)
             }
@@ -144,6 +155,10 @@ impl fmt::Display for Fault {
             Fault::NoFrame(_, 1) => f.write_str("the stream has only 1 frame"),
             Fault::NoFrame(_, frames) => write!(f, "the stream has only {frames} frames"),
             Fault::FrameZero => f.write_str("there is no frame 0: frames are counted from 1"),
+            Fault::SwapsFields { from, nearest, .. } => write!(
+                f,
+                "--crop from row {from} swaps the fields of interlaced video; begin at row {nearest}, or add --force"
+            ),
             Fault::NoWindow(_) => f.write_str("--ssim requires planes of at least 8x8 samples"),
         }
     }
@@ -193,6 +208,30 @@ fn advice_of(written: FileKind, named: FileKind) -> &'static str {
         (_, FileKind::Y4m) => "leave out --raw-output",
         (_, FileKind::Container) => "write a .y4m file and let ffmpeg convert it",
         _ => "write a frame with yuv show",
+    }
+}
+
+/// What happened to a stream, as a message says it.
+#[derive(Drop)]
+pub struct ShownProblem<'a> {
+    /// The error of the stream.
+    pub error: &'a StreamError,
+}
+
+impl fmt::Display for ShownProblem<'_> {
+    fn fmt<W: fmt::Write>(&self, f: &mut fmt::Formatter<W>) -> fmt::Result {
+        write_stream_error(f, self.error)
+    }
+}
+
+/// Returns whether a stream that is read breaks off, so that what was found before the frame that cannot be read is reported.
+pub fn is_broken(error: &StreamError) -> bool
+    ensures { IsTrue result ↔ IsBroken error.now }
+{
+    match (error.place, &error.problem) {
+        (Place::Output, _) => false,
+        (_, Problem::Stream(_)) => true,
+        _ => false,
     }
 }
 

@@ -2,7 +2,9 @@
 //! ask of streams; why it gives up, and how it ends.
 #![tactic(auto)]
 
+mod above;
 mod fault;
+mod headers;
 mod input;
 mod input_file;
 mod named_frame;
@@ -16,7 +18,12 @@ mod shown;
 mod status;
 mod system;
 
-pub use fault::Fault;
+pub use above::write_above;
+pub use fault::{Fault, ShownProblem, is_broken};
+pub use headers::{
+    HeaderDifferences, declared_range, header_differences, matrix_name, range_name, used_matrix,
+    used_range, write_differences,
+};
 pub use input::{begin, expected_frames};
 pub use input_file::InputFile;
 pub use named_frame::{frames_before, read_behind};

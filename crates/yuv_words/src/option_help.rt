@@ -107,11 +107,13 @@ pub(crate) const FRAME: &str = "  --frame N          take frame N, counted from 
 
 /// The help of `--matrix`.
 pub(crate) const MATRIX: &str =
-    "  --matrix M         convert colors by bt601, bt709 or bt2020 (bt709)\n";
+    "  --matrix M         convert colors by bt601, bt709 or bt2020 (bt601 up to 576
+                     rows, else bt709)\n";
 
 /// The help of `--range`.
 pub(crate) const RANGE: &str =
-    "  --range R          take samples as limited or full range (limited)\n";
+    "  --range R          take samples as limited or full range (the range that the
+                     header states, else limited)\n";
 
 /// The help of `--plane`.
 pub(crate) const PLANE: &str = "  --plane P          show one plane in gray: y, u or v\n";

@@ -54,7 +54,9 @@ const COMPARE: &str = "Usage: yuv compare FILE1 FILE2 [OPTIONS]
 Measure how much two videos differ. Print the mean squared error (MSE) and the
 peak signal-to-noise ratio (PSNR) of all planes and of each plane, the first
 sample that differs, and which stream has more frames. Frames are numbered as in
-FILE1. The exit status is 0 if all samples are equal, and 1 if they differ.
+FILE1. The exit status is 0 if all samples are equal, and 1 if they differ. If a
+stream is damaged, report the frames before, then the error. Warn if the headers
+disagree on color range, frame rate, pixel aspect or chroma siting.
 
 Examples:
   yuv compare source.y4m encoded.y4m --ssim --frames
@@ -68,7 +70,9 @@ const COPY: &str = "Usage: yuv copy INPUT OUTPUT [OPTIONS]
 
 Copy a video, or a part of it. The options are applied in this order: --skip and
 --count, --crop, --half, --format. OUTPUT is replaced after the last frame was
-written; until then the frames are in OUTPUT.partial.
+written; until then the frames are in OUTPUT.partial. OUTPUT must not be INPUT,
+and its extension must fit: .y4m, or .yuv or .raw with --raw-output. A crop that
+swaps the fields of interlaced video is rejected. --force overrides all of this.
 
 Examples:
   yuv copy in.y4m out.y4m --skip 10 --count 100 --crop 0,0,640,360
@@ -94,8 +98,10 @@ Options (defaults are in parentheses):
 const STATS: &str = "Usage: yuv stats FILE [OPTIONS]
 
 Print, for each plane over all frames, the minimum, the maximum and the mean of
-the samples, and how many are outside the nominal range. At 8 bits that is 16 to
-235 for luma and 16 to 240 for chroma; other depths scale it.
+the samples, and how many are outside the nominal range. In limited range at 8
+bits that is 16 to 235 for luma and 16 to 240 for chroma; other depths scale it.
+Samples above the bit depth are counted separately. If the stream is damaged,
+report the frames before, then the error.
 
 Example:
   yuv stats clip.y4m --skip 100 --count 50
@@ -106,7 +112,9 @@ Options (defaults are in parentheses):
 /// The help of `show`.
 const SHOW: &str = "Usage: yuv show FILE PICTURE [OPTIONS]
 
-Save a frame as a PNG picture: in color with 8 bits, or one plane in gray.
+Save a frame as a PNG picture: in color with 8 bits, or one plane in gray. Print
+the color matrix and the color range that were used, on standard error if PICTURE
+is -. PICTURE must not be FILE or a .y4m file, unless --force is given.
 
 Example:
   yuv show clip.y4m frame.png --frame 20
@@ -119,7 +127,8 @@ const DIFF: &str = "Usage: yuv diff FILE1 FILE2 PICTURE [OPTIONS]
 
 Save the difference of the luma of two frames as a gray PNG picture, black where
 they are equal. Print where each plane differs, on standard error if PICTURE is
--. The exit status is 0 if all samples are equal, and 1 if they differ.
+-. The exit status is 0 if all samples are equal, and 1 if they differ. PICTURE
+must not be an input or a .y4m file, unless --force is given.
 
 Example:
   yuv diff source.y4m encoded.y4m difference.png --frame 20
@@ -131,7 +140,9 @@ Options (defaults are in parentheses):
 const PLOT: &str = "Usage: yuv plot FILE1 FILE2 PICTURE [OPTIONS]
 
 Draw the PSNR and the SSIM of each frame as an SVG chart, with a line for each
-plane.
+plane. Identical frames are marked at the top. If a stream is damaged, draw the
+frames before, then report the error. PICTURE must not be an input or a .y4m file,
+unless --force is given.
 
 Example:
   yuv plot source.y4m encoded.y4m chart.svg

@@ -189,8 +189,6 @@ fn help_tells_what_nobody_asks_for() {
     let (shown, compared) = (["show", "one.y4m", "-"], ["diff", "one.y4m", "other.y4m", "-"]);
     let cases = [
         (&shown[..], "--frame", "1", "2"),
-        (&shown, "--matrix", "bt709", "bt601"),
-        (&shown, "--range", "limited", "full"),
         (&compared, "--frame", "1", "2"),
         (&compared, "--gain", "8", "16"),
     ];
@@ -201,6 +199,57 @@ fn help_tells_what_nobody_asks_for() {
         let picture = |value| run(&room, &[words, &[option, value]].concat()).stdout;
         let (wanted, others) = (picture(value), picture(other));
         assert!(run(&room, words).stdout == wanted && others != wanted, "{words:?} {option} {value}");
+    }
+}
+
+/// The colors of a picture are those that the header and the size say, unless an option says others. The program reports them.
+#[test]
+fn colors_are_those_of_the_header_and_the_size() {
+    let room = Room::new("colors");
+    let write = |name: &str, height: usize, range: &str| {
+        let mut stream = format!("YUV4MPEG2 W2 H{height} C444{range}\nFRAME\n").into_bytes();
+        for value in [120, 90, 200] {
+            stream.resize(stream.len() + 2 * height, value);
+        }
+        fs::write(room.folder().join(name), stream).expect("a file");
+    };
+    for (height, matrix, other) in [(2, "bt601", "bt709"), (576, "bt601", "bt709"), (577, "bt709", "bt601"), (1080, "bt709", "bt601")] {
+        for (declared, range) in [("", "limited"), (" XCOLORRANGE=LIMITED", "limited"), (" XCOLORRANGE=FULL", "full"), (" XCOLORRANGE=FULLER", "limited")] {
+            write("one.y4m", height, declared);
+            let shown = run(&room, &["show", "one.y4m", "-"]);
+            assert_eq!(String::from_utf8_lossy(&shown.stderr), format!("matrix {matrix}, range {range}\n"), "{height}{declared}");
+            let asked = |matrix: &str, range: &str| {
+                let output = run(&room, &["show", "one.y4m", "-", "--matrix", matrix, "--range", range]);
+                assert_eq!(String::from_utf8_lossy(&output.stderr), format!("matrix {matrix}, range {range}\n"));
+                output.stdout
+            };
+            assert!(shown.stdout == asked(matrix, range), "{height}{declared}");
+            assert!(shown.stdout != asked(other, range), "{height}{declared}");
+            let other = if range == "full" { "limited" } else { "full" };
+            assert!(shown.stdout != asked(matrix, other), "{height}{declared}");
+        }
+    }
+    let output = run(&room, &["show", "one.y4m", "one.png"]);
+    assert_eq!((output.stdout.as_slice(), output.stderr.as_slice()), (&b"matrix bt709, range limited\n"[..], &b""[..]));
+    let output = run(&room, &["show", "one.y4m", "gray.png", "--plane", "u"]);
+    assert_eq!((output.stdout.as_slice(), output.stderr.as_slice()), (&b""[..], &b""[..]));
+}
+
+/// What was measured before a stream breaks off is one JSON object, and says why.
+#[test]
+fn a_broken_stream_has_a_whole_object() {
+    let room = Room::new("object");
+    let whole = flat_stream(10, &[[400, 500, 600], [9, 99, 999]]);
+    fs::write(room.folder().join("one.y4m"), &whole).expect("a file");
+    fs::write(room.folder().join("late.y4m"), &whole[..whole.len() - 100]).expect("a file");
+    let fault = "frame 2: truncated frame, expected 384 bytes, found 284";
+    for (words, count) in [(["compare", "one.y4m", "late.y4m", "--json"].as_slice(), 1), (&["compare", "late.y4m", "one.y4m", "--json", "--skip", "1"], 0)] {
+        let output = run(&room, words);
+        let (text, error) = (String::from_utf8_lossy(&output.stdout), String::from_utf8_lossy(&output.stderr));
+        assert_eq!((output.status.code(), error.as_ref()), (Some(2), format!("yuv: late.y4m: {fault}\n").as_str()));
+        assert!(text.starts_with("{\n  \"frames\": [") && text.ends_with("\n}\n"), "{text}");
+        assert!(text.contains(&format!("],\n  \"error\": \"{fault}\",\n  \"count\": {count}")), "{text}");
+        assert_eq!((text.matches('{').count(), text.matches("\"frame\": ").count()), (text.matches('}').count(), count), "{text}");
     }
 }
 

@@ -145,6 +145,7 @@ fn faults_of_commands() {
             ("NoFrame", Fault::NoFrame(Place::First, 2)),
             ("NoFrame", Fault::NoFrame(Place::First, 1)),
             ("FrameZero", Fault::FrameZero),
+            ("SwapsFields", Fault::SwapsFields { place: Place::First, from: 2, nearest: 4 }),
             ("NoWindow", Fault::NoWindow(Place::First)),
         ],
     );

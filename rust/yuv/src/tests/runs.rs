@@ -40,7 +40,7 @@ fn kept_runs_write_what_they_should() {
     for case in &cases {
         check(&rt, &room, case);
     }
-    assert_eq!(cases.len(), 350);
+    assert_eq!(cases.len(), 379);
 }
 
 /// Does a run, and sees that it wrote what it should.
