@@ -68,8 +68,8 @@ pub(crate) const RAW_SECOND: &str = "  --raw-second SPEC  like --raw, for the se
 
 /// The help of `--max-pixels`.
 pub(crate) const MAX_PIXELS: &str =
-    "  --max-pixels N     reject frames of more than N luma pixels (33177600; for info,
-                     and for copy if no sample changes, no limit)\n";
+    "  --max-pixels N     reject frames of more than N luma pixels (33177600; no
+                     limit for info, or for copy if no sample changes)\n";
 
 /// The help of `--skip`.
 pub(crate) const SKIP: &str = "  --skip N           skip the first N frames of each stream (0)\n";

@@ -113,8 +113,8 @@ Options (defaults are in parentheses):
 const SHOW: &str = "Usage: yuv show FILE PICTURE [OPTIONS]
 
 Save a frame as a PNG picture: in color with 8 bits, or one plane in gray. Print
-the color matrix and the color range that were used, on standard error if PICTURE
-is -. PICTURE must not be FILE or a .y4m file, unless --force is given.
+the color matrix and the color range that were used, on standard error if
+PICTURE is -. PICTURE must not be FILE or a .y4m file, unless --force is given.
 
 Example:
   yuv show clip.y4m frame.png --frame 20
@@ -141,8 +141,8 @@ const PLOT: &str = "Usage: yuv plot FILE1 FILE2 PICTURE [OPTIONS]
 
 Draw the PSNR and the SSIM of each frame as an SVG chart, with a line for each
 plane. Identical frames are marked at the top. If a stream is damaged, draw the
-frames before, then report the error. PICTURE must not be an input or a .y4m file,
-unless --force is given.
+frames before, then report the error. PICTURE must not be an input or a .y4m
+file, unless --force is given.
 
 Example:
   yuv plot source.y4m encoded.y4m chart.svg
