@@ -1,4 +1,4 @@
-//! The program: its words are read and done, and what went wrong is reported.
+//! The program: it reads the words of a call, runs the command and reports errors.
 ghost use Rattle.std.specs.Prelude.{◌≡◌, ◌⊎◌};
 ghost use Rattle.yuv_system.specs.declared.status.Status.TheVariants.{Closed, Failed};
 ghost use Rattle.yuv_words.specs.Calls.{AsksHelp, IsWrittenAs};
@@ -16,13 +16,16 @@ use yuv_files::{SystemFile, shown_name, write_message};
 use yuv_system::{Fault, ProgressLine, Status, System, counts_shown, write_text};
 use yuv_words::{Command, CommandName, Topic, UsageError, help_topic, read_command, usage_text};
 
-/// What `yuv --version` prints.
+/// The text that `yuv version` prints.
 pub const VERSION: &str = "yuv 0.4.0\n";
 
-/// What a message calls standard output.
+/// The name of standard output in a message.
 const STANDARD_OUTPUT: &str = "standard output";
 
-/// What a program has of its system.
+/// Why a command does not write video or a PNG picture.
+const TERMINAL: &str = "it is a terminal; redirect it, or name a file";
+
+/// The standard streams of a program.
 #[derive(Drop)]
 pub struct Streams<I, O, E> {
     /// Standard input.
@@ -31,13 +34,14 @@ pub struct Streams<I, O, E> {
     pub output: O,
     /// Standard error.
     pub error: E,
-    /// Whether standard error is a terminal, where `--progress` shows something.
+    /// Whether standard error is a terminal, so that `--progress` shows a count.
     pub is_terminal: bool,
-    /// Whether standard output is one, where lines of frames and counts of them would stand among each other.
+    /// Whether standard output is a terminal. Lines of frames would then mix with the count of frames, and video or a PNG picture is
+    /// not written.
     pub output_is_terminal: bool,
 }
 
-/// Does what the words of a call, without the program's own name, ask for.
+/// Runs the command that the words of a call, without the name of the program, ask for.
 pub fn run<H, I, O, E>(rt: &H, words: &[&str], streams: Streams<I, O, E>) -> Status
 where
     H: Files + AllocGlobal + Clock,
@@ -54,7 +58,7 @@ where
     }
 }
 
-/// Does what these words ask for, the command first.
+/// Runs the command that these words ask for, the first of which is its name.
 fn run_words<H, I, O, E>(rt: &H, words: &[&str], streams: Streams<I, O, E>) -> Status
 where
     H: Files + AllocGlobal + Clock,
@@ -76,6 +80,10 @@ where
         Ok(command) => command,
         Err(refusal) => return refuse(&refusal, &mut error),
     };
+    if output_is_terminal && writes_data(&command) {
+        write_message(&mut error, Some(STANDARD_OUTPUT), &TERMINAL);
+        return Status::Failed;
+    }
     let shown = counts_shown(&command, is_terminal, output_is_terminal);
     let progress = ProgressLine::new(rt, error, shown);
     let mut system = System {
@@ -89,6 +97,18 @@ where
     match done {
         Ok(status) => status,
         Err(fault) => give_up(&mut system, &command, fault),
+    }
+}
+
+/// Returns whether a command writes video or a PNG picture to standard output.
+fn writes_data(command: &Command<'_>) -> bool {
+    match command {
+        Command::Call(call) => match call.name {
+            CommandName::Copy | CommandName::Show => call.second == "-",
+            CommandName::Diff => call.third == "-",
+            _ => false,
+        },
+        _ => false,
     }
 }
 
@@ -122,7 +142,7 @@ fn give_up<H: Clock, I, O, E: io::Write>(
     Status::Failed
 }
 
-/// Does a command.
+/// Runs a command.
 fn do_command<H, I, O, E>(
     system: &mut System<'_, H, I, O, E>,
     command: &Command<'_>,
