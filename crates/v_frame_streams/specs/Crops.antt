@@ -33,8 +33,7 @@ pub record IsPart (part : Rectangle) (size : ℕ × ℕ) (subsampling : ChromaSu
 -- why a rectangle can't be cut out of such pictures: the first reason that holds
 abbrev pub RefusesPart : Rectangle → ℕ × ℕ → ChromaSubsampling → Problem → Type 0
 RefusesPart part size subsampling EmptyCrop = ¬ (HasPixels part)
-RefusesPart part size subsampling (CropOutside width height) =
-    HasPixels part × ¬ (LiesIn part size) × (width ≡ size.0) × (height ≡ size.1)
+RefusesPart part size subsampling CropOutside = HasPixels part × ¬ (LiesIn part size)
 RefusesPart part size subsampling (CropMisaligned columns rows) =
     HasPixels part × LiesIn part size × ¬ (IsAligned part subsampling)
     × (columns ≡ (ratio_or_one subsampling).0) × (rows ≡ (ratio_or_one subsampling).1)
@@ -67,11 +66,10 @@ module _ {T : Type 0} where
   -- why a rectangle was not cut out of a frame: the first reason that holds
   abbrev pub RefusesFrame : Rectangle → Frame T → Problem → Type 0
   RefusesFrame part frame OutOfMemory = HasPart part frame
-  RefusesFrame part frame (CropOutside width height) =
+  RefusesFrame part frame CropOutside =
       let sizes = sizes_laid_out frame in
-      RefusesPart part sizes.0 frame.subsampling (CropOutside width height)
-      ⊎ (IsPart part sizes.0 frame.subsampling × ¬ (HasChromaBeside part frame.subsampling sizes.1)
-      × (width ≡ sizes.0.0) × (height ≡ sizes.0.1))
+      RefusesPart part sizes.0 frame.subsampling CropOutside
+      ⊎ (IsPart part sizes.0 frame.subsampling × ¬ (HasChromaBeside part frame.subsampling sizes.1))
   RefusesFrame part frame problem =
       RefusesPart part (sizes_laid_out frame).0 frame.subsampling problem
 

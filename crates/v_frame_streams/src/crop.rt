@@ -82,10 +82,7 @@ fn test_part(
         return Err(Problem::EmptyCrop);
     }
     if !part.lies_in(size.0, size.1) {
-        return Err(Problem::CropOutside {
-            width: size.0,
-            height: size.1,
-        });
+        return Err(Problem::CropOutside);
     }
     let (columns, rows) = subsample_ratio_or_one(subsampling);
     if part.x % columns != 0 || part.y % rows != 0 {
@@ -103,10 +100,7 @@ fn test_frame<T: Pixel>(frame: &Frame<T>, part: &Rectangle) -> Result<(), Proble
     test_part(part, size, frame.subsampling)?;
     let chroma = chroma_beside(part, frame.subsampling);
     if !chroma_has(&frame.u_plane, &chroma) || !chroma_has(&frame.v_plane, &chroma) {
-        return Err(Problem::CropOutside {
-            width: size.0,
-            height: size.1,
-        });
+        return Err(Problem::CropOutside);
     }
     Ok(())
 }

@@ -89,16 +89,11 @@ pub enum Problem {
     /// The crop has no column or no row.
     #[error("the crop is empty")]
     EmptyCrop,
-    /// The crop is not inside the picture.
-    #[error("the crop is not inside the picture of {width}x{height} pixels")]
-    CropOutside {
-        /// The width of the picture in luma pixels.
-        width: usize,
-        /// The height of the picture in luma pixels.
-        height: usize,
-    },
+    /// The crop doesn't lie inside the picture.
+    #[error("the crop is not inside the picture")]
+    CropOutside,
     /// The crop begins inside a chroma pixel.
-    #[error("the crop begins inside a chroma pixel, which is {columns}x{rows} luma pixels")]
+    #[error("the crop begins inside a chroma pixel, which is {columns} luma columns wide and {rows} rows high")]
     CropMisaligned {
         /// How many luma columns stand beside one chroma column.
         columns: usize,
@@ -106,33 +101,14 @@ pub enum Problem {
         rows: usize,
     },
     /// The frames of the two streams have different sizes.
-    #[error("the streams have different sizes: {first_width}x{first_height} and {second_width}x{second_height}")]
-    OtherSize {
-        /// The width of the first stream in luma pixels.
-        first_width: usize,
-        /// The height of the first stream in luma pixels.
-        first_height: usize,
-        /// The width of the second stream in luma pixels.
-        second_width: usize,
-        /// The height of the second stream in luma pixels.
-        second_height: usize,
-    },
-    /// The frames of the two streams have different chroma formats.
-    #[error("the streams have different chroma formats: {first} and {second}")]
-    OtherChroma {
-        /// The chroma format of the first stream, as `4:2:0`.
-        first: &'static str,
-        /// The chroma format of the second stream, as `4:2:0`.
-        second: &'static str,
-    },
-    /// The frames of the two streams have different bit depths.
-    #[error("the streams have different bit depths: {first} and {second}")]
-    OtherDepth {
-        /// The bit depth of the first stream.
-        first: u8,
-        /// The bit depth of the second stream.
-        second: u8,
-    },
+    #[error("the streams have different sizes")]
+    OtherSize,
+    /// They have different chroma formats.
+    #[error("the streams have different chroma formats")]
+    OtherChroma,
+    /// They have different bit depths.
+    #[error("the streams have different bit depths")]
+    OtherDepth,
     /// A YUV4MPEG2 stream has no frames in a semi-planar layout.
     #[error("a YUV4MPEG2 stream has no semi-planar frames")]
     SemiPlanar,

@@ -28,6 +28,7 @@ use yuv_reports::{Report, ReportForm};
 use yuv_system::{
     Fault, ProgressLine, Status, System, begin, expected_frames, header_differences, is_broken,
     open_file, stream_comparison, test_compared, write_above, write_differences,
+    write_formats,
 };
 use yuv_words::{Call, Options};
 
@@ -61,6 +62,7 @@ where
         test_windows(one.header())?;
     }
     system.progress.expect(expected_frames(&one, len));
+    write_formats(system.progress.out(), one.header(), other.header());
     check_formats(&one, &other)?;
     warn_of_headers(
         system.progress.out(),
@@ -80,7 +82,7 @@ where
     Ok(comparison_status(&found))
 }
 
-/// Warns where the headers of two streams disagree on what a comparison of samples does not show. Raw video has no header.
+/// Warns if the headers of two streams disagree on what a comparison of samples does not show. Headerless video has no header.
 pub(crate) fn warn_of_headers<E: io::Write>(
     messages: &mut E,
     options: &Options,

@@ -22,7 +22,7 @@ use yuv_files::{FileKind, SystemFile};
 use yuv_pictures::{Found, PictureError, PlaneDifference, differences, write_difference_picture};
 use yuv_system::{
     Fault, Output, Status, System, Target, begin, frames_before, is_standard_output, most_pixels,
-    no_memory, open_file, read_behind, test_target, write_above, write_made, write_text,
+    no_memory, open_file, read_behind, test_target, write_above, write_made, write_text, write_formats,
 };
 use yuv_words::{Call, Options};
 
@@ -62,6 +62,7 @@ where
     let mut other = begin(system, second, &mut other_file, options.raw_second)?;
     let mut output = Output::open(rt, &target, &mut system.output, system.progress.out())?;
     frames_before(options.frame)?;
+    write_formats(system.progress.out(), one.header(), other.header());
     check_formats(&one, &other)?;
     warn_of_headers(
         system.progress.out(),

@@ -20,7 +20,7 @@ use v_frame_streams::{
 use yuv_files::{FileKind, SystemFile};
 use yuv_system::{
     Fault, Output, Status, System, Target, begin, expected_frames, is_broken, no_memory, open_file,
-    taken_of_both, test_compared, test_target, write_text,
+    taken_of_both, test_compared, test_target, write_text, write_formats,
 };
 use yuv_words::{Call, Options};
 
@@ -56,6 +56,7 @@ where
     let mut one = begin(system, first, &mut file, options.raw)?;
     let mut other_file = open_file(rt, second, Place::Second, &mut system.input)?;
     let mut other = begin(system, second, &mut other_file, options.raw_second)?;
+    write_formats(system.progress.out(), one.header(), other.header());
     check_formats(&one, &other)?;
     warn_of_headers(
         system.progress.out(),

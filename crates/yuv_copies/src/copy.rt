@@ -23,7 +23,7 @@ use yuv_files::{FileKind, SystemFile, shown_name, write_message};
 use yuv_pictures::greatest_value;
 use yuv_system::{
     Fault, Output, Status, System, Target, begin, copy_sink, declared_range, expected_frames,
-    is_broken, is_standard_output, nothing_taken, open_file, stream_copy, test_limit, test_target,
+    is_broken, is_standard_output, nothing_taken, open_file, stream_copy, test_limit, test_target, write_size_of_crop,
 };
 use yuv_words::{Call, Options};
 
@@ -78,6 +78,7 @@ where
     let done = match done {
         Ok(frames) => Ok(frames),
         Err(error) => {
+            write_size_of_crop(system.progress.out(), from, source.header(), &error.problem);
             if options.salvage && is_broken(&error) {
                 output.settle(rt, Ok(()))?;
                 system.progress.end();

@@ -22,7 +22,7 @@ use yuv_pictures::{Colors, PictureError, has_sample_above, write_frame_picture, 
 use yuv_system::{
     Fault, Output, Status, System, Target, begin, frames_before, is_standard_output, matrix_name,
     most_pixels, no_memory, open_file, range_name, read_behind, test_pixels, test_target,
-    used_matrix, used_range, write_above, write_made, write_text,
+    used_matrix, used_range, write_above, write_made, write_text, write_size_of_crop,
 };
 use yuv_words::{Call, Options};
 
@@ -73,7 +73,12 @@ where
     write_above(system.progress.out(), from, &source, above);
     let done = match shown {
         Ok(_written) => Ok(()),
-        Err(fault) => Err(fault),
+        Err(fault) => {
+            if let Fault::Stream(error) = &fault {
+                write_size_of_crop(system.progress.out(), from, source.header(), &error.problem);
+            }
+            Err(fault)
+        }
     };
     output.settle(rt, done)?;
     if options.plane.is_none() {

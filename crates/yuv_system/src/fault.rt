@@ -274,9 +274,7 @@ fn advice_for(problem: &Problem) -> &'static str {
     match problem {
         Problem::TooManyPixels(_) => "; --max-pixels N allows more",
         Problem::SemiPlanar => "; --raw-output writes them",
-        Problem::OtherChroma { .. } | Problem::OtherDepth { .. } => {
-            "; 'yuv copy --format' converts one of them"
-        }
+        Problem::OtherChroma | Problem::OtherDepth => "; 'yuv copy --format' converts one of them",
         _ => "",
     }
 }

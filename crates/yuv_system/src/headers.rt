@@ -5,9 +5,11 @@ ghost use Rattle.std.specs.Str.{bytes_eq};
 ghost use Rattle.yuv_system.specs.Headers.{declared_range as range_declared, matrix_of, used_range as range_used, other_ratio as ratios_apart, other_siting as sitings_apart, other_range as ranges_apart, differences_of};
 
 use std::{fmt, io};
+use v_frame::chroma::ChromaSubsampling;
 use v_frame_rgb::{ColorRange, Standard};
+use v_frame_streams::Problem;
 use v_frame_y4m::{ChromaSiting, Ratio, StreamHeader};
-use yuv_files::write_message;
+use yuv_files::{shown_name, write_message};
 
 /// The greatest height in rows at which a picture has the colors of BT.601.
 const ROWS_OF_BT601: usize = 576;
@@ -168,6 +170,87 @@ pub fn write_differences<E: io::Write>(messages: &mut E, found: &HeaderDifferenc
     if let Some((one, other)) = found.siting {
         let (one, other) = (siting_name(one), siting_name(other));
         write_disagreement(messages, "chroma siting", &one, &other);
+    }
+}
+
+/// Writes a message with the sizes, the chroma formats and the bit depths of two streams, as far as they differ. Such streams are not
+/// compared.
+pub fn write_formats<E: io::Write>(
+    messages: &mut E,
+    first: &StreamHeader,
+    second: &StreamHeader,
+) {
+    let (one, other) = (size_of(first), size_of(second));
+    if one.width != other.width || one.height != other.height {
+        write_disagreement(messages, "size", &one, &other);
+    }
+    let (one, other) = (first.color.subsampling(), second.color.subsampling());
+    if one != other {
+        let (one, other) = (chroma_name(one), chroma_name(other));
+        write_disagreement(messages, "chroma format", &one, &other);
+    }
+    let (one, other) = (first.color.bit_depth(), second.color.bit_depth());
+    if one != other {
+        write_disagreement(messages, "bit depth", &one, &other);
+    }
+}
+
+/// Writes a message with the size of the pictures of a stream, if an error is that a crop is not inside them.
+pub fn write_size_of_crop<E: io::Write>(
+    messages: &mut E,
+    name: &str,
+    header: &StreamHeader,
+    problem: &Problem,
+) {
+    if let Problem::CropOutside = problem {
+        let size = size_of(header);
+        write_message(messages, Some(shown_name(name)), &PictureSize { size });
+    }
+}
+
+/// Returns the size of the pictures of a stream.
+fn size_of(header: &StreamHeader) -> ShownSize {
+    ShownSize {
+        width: header.width,
+        height: header.height,
+    }
+}
+
+/// Returns the name of a chroma format.
+fn chroma_name(subsampling: ChromaSubsampling) -> &'static str {
+    match subsampling {
+        ChromaSubsampling::Monochrome => "luma only",
+        ChromaSubsampling::Yuv420 => "4:2:0",
+        ChromaSubsampling::Yuv422 => "4:2:2",
+        ChromaSubsampling::Yuv444 => "4:4:4",
+        ChromaSubsampling::Yuv411 => "4:1:1",
+    }
+}
+
+/// The width and the height of a picture.
+#[derive(Clone, Copy)]
+struct ShownSize {
+    width: usize,
+    height: usize,
+}
+
+impl fmt::Display for ShownSize {
+    fn fmt<W: fmt::Write>(&self, f: &mut fmt::Formatter<W>) -> fmt::Result {
+        let (width, height) = (self.width, self.height);
+        write!(f, "{width}x{height}")
+    }
+}
+
+/// A message with the size of the pictures of a stream.
+#[derive(Clone, Copy)]
+struct PictureSize {
+    size: ShownSize,
+}
+
+impl fmt::Display for PictureSize {
+    fn fmt<W: fmt::Write>(&self, f: &mut fmt::Formatter<W>) -> fmt::Result {
+        let size = self.size;
+        write!(f, "the pictures have {size} pixels")
     }
 }
 

@@ -22,7 +22,7 @@ pub use above::write_above;
 pub use fault::{Fault, ShownProblem, is_broken};
 pub use headers::{
     HeaderDifferences, declared_range, header_differences, matrix_name, range_name, used_matrix,
-    used_range, write_differences,
+    used_range, write_differences, write_formats, write_size_of_crop,
 };
 pub use input::{begin, expected_frames};
 pub use input_file::InputFile;

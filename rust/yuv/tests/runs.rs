@@ -177,7 +177,7 @@ fn chroma_whose_size_is_rounded_up_has_windows() {
     write("large.y4m", "mono", (8, 8), 64);
     let said = |words: [&str; 2]| String::from_utf8(run(&room, &["compare", words[0], words[1], "--ssim"]).stderr).expect("text");
     assert_eq!(said(["one.y4m", "large.y4m"]), refusal);
-    assert_eq!(said(["large.y4m", "one.y4m"]), "yuv: one.y4m: the streams have different sizes: 8x8 and 8x7\n");
+    assert_eq!(said(["large.y4m", "one.y4m"]), "yuv: the headers disagree on the size: 8x8 and 8x7\nyuv: the headers disagree on the chroma format: luma only and 4:4:4\nyuv: one.y4m: the streams have different sizes\n");
 }
 
 /// What help has in brackets behind an option is what holds where it is not given.
