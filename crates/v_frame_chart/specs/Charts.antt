@@ -1,5 +1,5 @@
 -- The text of a chart.
-use Rattle.std.specs.Prelude.{ℕ, ◌-◌, ◌≡◌, ◌++◌, ◌||◌, nat_lt, if◌then◌else◌, Bool, false, codes, List, fold, flat_map, length, max, min, Option}
+use Rattle.std.specs.Prelude.{ℕ, ◌-◌, ◌≡◌, ◌++◌, ◌||◌, [], nat_lt, if◌then◌else◌, Bool, false, codes, List, fold, flat_map, length, max, min, Option}
 use Rattle.std.specs.List.{enumerate_from}
 use Rattle.std.specs.Io.KnownBytes.{Appends}
 use Rattle.v_frame_chart.specs.Columns.{columns_of}
@@ -41,7 +41,7 @@ all_series scale span series =
     flat_map (series_text scale span) (enumerate_from 0 series)
 
 -- one of the series has an infinite value
-unfoldable pub has_endless_series : List Series → Bool
+abbrev pub has_endless_series : List Series → Bool
 has_endless_series series = fold (λ found one. found || has_endless one.values.now) false series
 
 -- a note, if it applies

@@ -16,7 +16,7 @@ abbrev pub is_endless : Float → Bool
 is_endless value = lt float_zero value && not (float_is_finite value)
 
 -- one of the values is
-unfoldable pub has_endless : List Float → Bool
+abbrev pub has_endless : List Float → Bool
 has_endless values = fold (λ found value. found || is_endless value) false values
 
 -- the width of a mark: of a column, and at most 12 pixels

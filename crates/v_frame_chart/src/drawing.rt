@@ -4,7 +4,7 @@ ghost use Rattle.std.specs.List.{enumerate_from};
 ghost use Rattle.v_frame_chart.specs.Charts.{all_series, chart_text, frames_of as the_frames, has_endless_series as the_endless, note_text, notes_text, series_text, span_of as the_span, AppendsChart, AppendsPartOfChart, IsChart};
 
 use crate::columns::summaries;
-use crate::endless::{has_endless, push_endless};
+use crate::endless::{either, has_endless, push_endless};
 use crate::frames::{across_of, frame_step, push_frames};
 use crate::grid::push_grid;
 use crate::lines::push_drawn;
@@ -141,13 +141,12 @@ fn push_note_if(
 }
 
 /// Returns whether one of the series has an infinite value.
-#[tactic(auto, unfolding(crate::specs::Charts::has_endless_series))]
 fn has_endless_series(series: &[Series<'_>]) -> bool
     ensures { result ≡ the_endless series.now }
 {
     let mut found = false;
     for one in series {
-        found = found || has_endless(one.values);
+        found = either(found, has_endless(one.values));
     }
     found
 }

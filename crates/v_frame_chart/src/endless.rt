@@ -1,5 +1,5 @@
 //! Marks at the top of a chart, for values that are infinite: the PSNR of identical pictures.
-ghost use Rattle.std.specs.Prelude.{◌≡◌, ◌++◌, ◌<◌, ◌≤◌, [], OnOk, flat_map, if◌then◌else◌, length, string_bytes};
+ghost use Rattle.std.specs.Prelude.{◌≡◌, ◌++◌, ◌||◌, ◌<◌, ◌≤◌, [], OnOk, flat_map, if◌then◌else◌, length, string_bytes};
 ghost use Rattle.std.specs.List.{range_with_len};
 ghost use Rattle.v_frame_chart.specs.Endless.{endless_at, endless_head, endless_part, endless_row, endless_text, has_endless as the_endless, is_endless as the_test, mark_width as the_width, row_of as the_row, top_mark};
 
@@ -133,15 +133,21 @@ fn row_of(k: usize) -> usize
 }
 
 /// Returns whether one of the values is infinite.
-#[tactic(auto, unfolding(crate::specs::Endless::has_endless))]
 pub(crate) fn has_endless(values: &[f64]) -> bool
     ensures { result ≡ the_endless values.now }
 {
     let mut found = false;
     for value in values {
-        found = found || is_endless(*value);
+        found = either(found, is_endless(*value));
     }
     found
+}
+
+/// Returns whether one of two statements is true.
+pub(crate) fn either(one: bool, other: bool) -> bool
+    ensures { result ≡ (one || other) }
+{
+    one || other
 }
 
 /// Returns whether a value is infinite and above 0.

@@ -12,11 +12,11 @@ use std::alloc::{AllocError, Global};
 use v_frame_formats::{PixelDifference, PlaneSums};
 use v_frame_measures::FrameMeasure;
 
-/// The keys of the values of a measure, with what stands before them.
+/// The keys of the values of a measure, with the punctuation before them.
 const KEYS: [&str; 4] = ["{\"all\": ", ", \"y\": ", ", \"u\": ", ", \"v\": "];
 
-/// Appends the object of a frame, without the comma or the line feed after it. Its values are put together in a text of their own,
-/// since nothing is known of one that a float was written to.
+/// Appends the object of a frame, without the comma or the line feed after it. The values are first collected in a separate text,
+/// because contracts do not describe a text after a float was written to it.
 pub fn push_frame(
     alloc: Global,
     text: &mut String,
@@ -74,7 +74,7 @@ fn push_values(text: &mut String, values: &FrameMeasure) -> Result<(), AllocErro
     text.push('}')
 }
 
-/// Appends a number, or `null` where it is none that JSON has.
+/// Appends a number, or `null` if JSON cannot represent it.
 fn push_finite(text: &mut String, value: f64) -> Result<(), AllocError> {
     if value.is_finite() {
         push_value(text, "", value, "")
@@ -83,7 +83,7 @@ fn push_finite(text: &mut String, value: f64) -> Result<(), AllocError> {
     }
 }
 
-/// Appends the object of the sums after a text, where they are reported.
+/// Appends the object of the sums after a text, if they are reported.
 fn push_sums(text: &mut String, between: &str, sums: &Option<PlaneSums>) -> Result<(), AllocError>
     ensures { OnOk result (EndsWith (members_end sums.now) (string_bytes text.new)) }
 {
@@ -97,7 +97,7 @@ fn push_sums(text: &mut String, between: &str, sums: &Option<PlaneSums>) -> Resu
     text.push('}')
 }
 
-/// Appends the member that says why a stream breaks off.
+/// Appends the member that states why a stream could not be read further.
 pub fn push_error(text: &mut String, error: &str) -> Result<(), AllocError> {
     text.push_str("  \"error\": \"")?;
     for letter in error.chars() {
@@ -106,7 +106,7 @@ pub fn push_error(text: &mut String, error: &str) -> Result<(), AllocError> {
     text.push_str("\",\n")
 }
 
-/// Appends the count of no frames, and the end of the object.
+/// Appends the count 0 and the end of the object.
 pub fn push_no_frames(text: &mut String) -> Result<(), AllocError>
     ensures { OnOk result (EndsWith no_frames (string_bytes text.new)) }
 {
@@ -164,7 +164,7 @@ fn push_longer(text: &mut String, longer: Option<Longer>) -> Result<(), AllocErr
     })
 }
 
-/// Appends the object of a measure over all frames, `null` where there was none.
+/// Appends the object of a measure over all frames, with `null` if there was no frame.
 fn push_pool(text: &mut String, pool: &Pool) -> Result<(), AllocError> {
     let pooled = (pool.mean(), pool.harmonic_mean(), pool.least());
     let (Some(mean), Some(harmonic_mean), Some((least, frame))) = pooled else {
@@ -179,7 +179,7 @@ fn push_pool(text: &mut String, pool: &Pool) -> Result<(), AllocError> {
     push_number(text, ", \"frame_of_the_minimum\": ", u128::from(frame), "}")
 }
 
-/// Appends the object of the first sample that differs, `null` where none does.
+/// Appends the object of the first sample that differs, or `null` if no sample differs.
 fn push_difference(
     text: &mut String,
     difference: &Option<(u64, PixelDifference)>,
@@ -209,7 +209,7 @@ fn push_sample(text: &mut String, frame: u64, found: &PixelDifference) -> Result
     write!(text, "\"first\": {first}, \"second\": {second}}}")
 }
 
-/// Appends the begin of an object: the place of a sample.
+/// Appends the beginning of an object: the place of a sample.
 fn push_place(
     text: &mut String,
     frame: u64,

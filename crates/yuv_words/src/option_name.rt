@@ -1,4 +1,4 @@
-//! The names of options and of commands, what an option takes, and how many files and which options a command has.
+//! The names of options and commands, the values that options take, and the options and the number of files of each command.
 ghost use Rattle.std.specs.Prelude.{◌≡◌, ◌≢◌, ◌<◌, ◌↔◌, is_some, Contains, IsTrue, MatchOption};
 ghost use Rattle.yuv_words.specs.Names.{command_text, file_count as count_of_files, option_text, options_of, takes_value as has_value};
 ghost use Rattle.yuv_words.specs.Reading.{option_place};
@@ -17,7 +17,7 @@ use crate::option_name::OptionName::{
     Salvage, Skip, SkipSecond, Ssim,
 };
 
-/// An option of some command, by its name.
+/// The name of an option.
 #[derive(Debug, Clone, Copy, PartialEq, Eq)]
 pub enum OptionName {
     Header,
@@ -50,7 +50,7 @@ pub enum OptionName {
     Gain,
 }
 
-/// How many options there are.
+/// The number of options.
 pub(crate) const OPTION_COUNT: usize = 28;
 
 /// All options.
@@ -60,7 +60,7 @@ const OPTIONS: [OptionName; OPTION_COUNT] = [
     Matrix, Range, Plane, Gain,
 ];
 
-/// All commands that have files.
+/// All commands that take files.
 const COMMANDS: [CommandName; 8] = [
     CommandName::Info,
     CommandName::Compare,
@@ -73,8 +73,7 @@ const COMMANDS: [CommandName; 8] = [
 ];
 
 impl OptionName {
-    /// Returns the word that the option is written as, with its dashes, what it takes, where it takes a value, and what help says
-    /// of it.
+    /// Returns the word of the option with its dashes, a description of its value if it takes one, and its help.
     fn row(self) -> (&'static str, Option<&'static str>, &'static str)
         ensures text { result.0.now ≡ option_text self }
         ensures value { is_some result.1 ≡ has_value self }
@@ -127,31 +126,31 @@ impl OptionName {
         }
     }
 
-    /// Returns the word that the option is written as, with its dashes.
+    /// Returns the word of the option with its dashes.
     pub fn text(self) -> &'static str
         ensures { result.now ≡ option_text self }
     {
         self.row().0
     }
 
-    /// Returns what the option takes, in words. Empty where it takes no value.
+    /// Returns a description of the value, or an empty text if the option takes no value.
     pub(crate) fn needs(self) -> &'static str {
         self.row().1.unwrap_or("")
     }
 
-    /// Returns what help says of the option: lines that begin with its word.
+    /// Returns the help of the option: one or more lines, the first of which begins with its word.
     pub fn help(self) -> &'static str {
         self.row().2
     }
 
-    /// Returns whether a value belongs to the option.
+    /// Returns whether the option takes a value.
     pub(crate) fn takes_value(self) -> bool
         ensures { result ≡ has_value self }
     {
         self.row().1.is_some()
     }
 
-    /// Returns the place of the option among all.
+    /// Returns the index of the option in the list of all options.
     pub(crate) fn place(self) -> usize
         ensures place { result ≡ option_place self }
         ensures below { result < OPTION_COUNT }
@@ -159,7 +158,7 @@ impl OptionName {
         self as usize
     }
 
-    /// Returns the option that a word is.
+    /// Returns the option with this word, or `None` if there is none.
     pub(crate) fn named(word: &str) -> Option<Self>
         ensures { MatchOption result ((n : TheOption) → word.now ≢ option_text n)
             (λ n. word.now ≡ option_text n) }
@@ -172,7 +171,7 @@ impl OptionName {
         None
     }
 
-    /// Returns whether a word is the option.
+    /// Returns whether this is the word of the option.
     fn is_written(self, word: &str) -> bool
         ensures { IsTrue result ↔ (word.now ≡ option_text self) }
     {
@@ -181,7 +180,7 @@ impl OptionName {
 }
 
 impl CommandName {
-    /// Returns the word that the command is written as.
+    /// Returns the word of the command.
     pub fn text(self) -> &'static str
         ensures { result.now ≡ command_text self }
     {
@@ -197,7 +196,7 @@ impl CommandName {
         }
     }
 
-    /// Returns the command that a word is.
+    /// Returns the command with this word, or `None` if there is none.
     pub(crate) fn named(word: &str) -> Option<Self>
         ensures { MatchOption result ((k : TheCommand) → word.now ≢ command_text k)
             (λ k. word.now ≡ command_text k) }
@@ -210,14 +209,14 @@ impl CommandName {
         None
     }
 
-    /// Returns whether a word is the command.
+    /// Returns whether this is the word of the command.
     fn is_written(self, word: &str) -> bool
         ensures { IsTrue result ↔ (word.now ≡ command_text self) }
     {
         word == self.text()
     }
 
-    /// Returns how many files the command takes.
+    /// Returns the number of files that the command takes.
     pub(crate) fn file_count(self) -> usize
         ensures { result ≡ count_of_files self }
     {
@@ -228,7 +227,7 @@ impl CommandName {
         }
     }
 
-    /// Returns the options that the command has, in the order in which help shows them.
+    /// Returns the options of the command, in the order in which help lists them.
     pub fn options(self) -> &'static [OptionName]
         ensures { result.now ≡ options_of self }
     {
@@ -252,7 +251,7 @@ impl CommandName {
         }
     }
 
-    /// Returns whether the command has an option.
+    /// Returns whether the command has this option.
     pub(crate) fn takes(self, option: OptionName) -> bool
         ensures { IsTrue result ↔ Contains (options_of self) option }
     {
