@@ -1,7 +1,7 @@
 //! The picture: axes, grid, lines and legend, as SVG.
 ghost use Rattle.std.specs.Prelude.{◌≡◌, ◌++◌, ◌<◌, ◌^◌, IfOk, OnErr, OnOk, length, string_bytes};
 ghost use Rattle.std.specs.List.{enumerate_from};
-ghost use Rattle.v_frame_chart.specs.Charts.{all_series, chart_text, frames_of as the_frames, has_endless_series as the_endless, note_text, notes_text, series_text, span_of as the_span, AppendsChart, AppendsPartOfChart, IsChart};
+ghost use Rattle.v_frame_chart.specs.Charts.{all_series, band_note, chart_text, endless_note, frames_of as the_frames, has_endless_series as the_endless, note_text, notes_text, series_text, span_of as the_span, AppendsChart, AppendsPartOfChart, IsChart};
 
 use crate::columns::summaries;
 use crate::endless::{either, has_endless, push_endless};
@@ -106,9 +106,25 @@ fn push_chart(
 fn push_notes(text: &mut String, series: &[Series<'_>]) -> Result<(), AllocError>
     ensures { OnOk result (string_bytes text.new ≡ string_bytes text.old ++ notes_text series.now) }
 {
-    push_note_if(text, has_endless_series(series), ENDLESS_PLACE, ENDLESS_NOTE)?;
-    push_note_if(text, COLUMNS < frames_of(series), BAND_PLACE, BAND_NOTE)?;
+    push_endless_note(text, series)?;
+    push_band_note(text, series)?;
     Ok(())
+}
+
+/// Appends a note on the marks at the top, if there are any.
+#[tactic(auto, unfolding(crate::specs::Charts::endless_note))]
+fn push_endless_note(text: &mut String, series: &[Series<'_>]) -> Result<(), AllocError>
+    ensures { OnOk result (string_bytes text.new ≡ string_bytes text.old ++ endless_note series.now) }
+{
+    push_note_if(text, has_endless_series(series), ENDLESS_PLACE, ENDLESS_NOTE)
+}
+
+/// Appends a note on the bands, if there are any.
+#[tactic(auto, unfolding(crate::specs::Charts::band_note))]
+fn push_band_note(text: &mut String, series: &[Series<'_>]) -> Result<(), AllocError>
+    ensures { OnOk result (string_bytes text.new ≡ string_bytes text.old ++ band_note series.now) }
+{
+    push_note_if(text, COLUMNS < frames_of(series), BAND_PLACE, BAND_NOTE)
 }
 
 /// Where the note on the marks at the top is.

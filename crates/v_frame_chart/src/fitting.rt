@@ -1,11 +1,11 @@
-//! The choice of the axis of numbers: any scale is a true one, and this one is fine to read.
+//! The choice of the axis of numbers. A chart is correct with any scale that contains the values; this choice is easy to read.
 ghost use Rattle.std.specs.Prelude.{◌+ℤ◌, ◌≤ℤ◌, ◌^◌, negsuc, pos};
 
 use crate::scale::{Digit, Power, Scale};
 use crate::ticks::value_of;
 use std::num::saturating_f64_to_i64;
 
-/// How far apart marks are at least, in parts of the greater size of the numbers.
+/// The least distance of two marks, as a fraction of the greater absolute value.
 const FINEST: f64 = 1e-12;
 
 /// Returns a scale with two finite numbers between its ends, and at most six steps between them. If the numbers are equal, the scale
@@ -57,7 +57,7 @@ fn scale_of_steps(first: i64, last: i64, digit: Digit, power: Power) -> Scale
     }
 }
 
-/// Returns a whole number, or the nearest that is not too large.
+/// Returns the nearest whole number that is not too large.
 fn whole(number: f64) -> i64
     ensures low { negsuc (2 ^ 50) ≤ℤ result }
     ensures high { result ≤ℤ pos (2 ^ 50) }
@@ -65,7 +65,7 @@ fn whole(number: f64) -> i64
     saturating_f64_to_i64(number).clamp(-(1 << 50), 1 << 50)
 }
 
-/// Returns the least of 1, 2 and 5 times a power of ten that is at least a number.
+/// Returns the least step, 1, 2 or 5 times a power of ten, that is at least `least`.
 fn step_from(least: f64) -> (Digit, Power) {
     let mut step = (Digit::One, Power::Times(0));
     if least > 1.0 {

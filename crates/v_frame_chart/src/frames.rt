@@ -8,7 +8,7 @@ use crate::places::Place;
 use std::alloc::AllocError;
 use std::num::nearest_u64_to_f64;
 
-/// Returns the axis from the first frame over so many more.
+/// Returns the axis from the first frame to the frame `span` frames after it.
 #[tactic(auto, unfolding(crate::specs::Frames::across_of))]
 pub(crate) fn across_of(span: u64) -> Axis
     ensures { result ≡ the_across span }
@@ -21,7 +21,7 @@ pub(crate) fn across_of(span: u64) -> Axis
     }
 }
 
-/// Returns the least of 1, 2 and 5 times a power of ten of which a span has at most eight.
+/// Returns the least of 1, 2, 5, 10, 20, 50 and so on that fits at most eight times into a span.
 pub(crate) fn frame_step(span: u64) -> u64
     requires { span < 2 ^ 63 }
     ensures step { IsFrameStep span result }
@@ -36,7 +36,7 @@ pub(crate) fn frame_step(span: u64) -> u64
     span
 }
 
-/// How many of the numbers 1, 2, 5, 10 and so on there are, up to one that is an eighth of any span.
+/// The number of steps 1, 2, 5, 10 and so on, up to an eighth of the greatest span.
 const ROUND_NUMBERS: u32 = 57;
 
 /// Returns one of the numbers 1, 2, 5, 10 and so on.
@@ -103,7 +103,7 @@ fn push_frame_marks(
     Ok(())
 }
 
-/// Returns how many frames behind the first the first multiple of the step is.
+/// Returns the distance in frames from the first frame to the first multiple of the step.
 #[tactic(auto, unfolding(crate::specs::Frames::first_mark))]
 fn first_mark(first: u64, step: u64) -> u64
     requires { 0 < step }
@@ -113,7 +113,7 @@ fn first_mark(first: u64, step: u64) -> u64
     (step - first % step) % step
 }
 
-/// Returns how many multiples of the step there are.
+/// Returns the number of multiples of the step.
 #[tactic(auto, unfolding(crate::specs::Frames::mark_count))]
 fn mark_count(first: u64, span: u64, step: u64) -> u64
     requires some { 0 < step }
@@ -128,7 +128,7 @@ fn mark_count(first: u64, span: u64, step: u64) -> u64
     }
 }
 
-/// Appends the mark and the number of a frame, so many behind the first.
+/// Appends the mark and the number of the frame `index` frames after the first.
 #[tactic(auto, unfolding(crate::specs::Frames::frame_mark))]
 fn push_frame_mark(
     text: &mut String,

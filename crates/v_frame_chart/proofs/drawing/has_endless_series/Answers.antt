@@ -6,4 +6,4 @@ use Rattle.v_frame_chart.proofs.drawing.has_endless_series.Goals as goal
 
 pub loop-one-preserved : goal.loop-one-preserved
 loop-one-preserved c = any_more (λ (one : Series). has_endless one.values.now) c.args.series.now c.loop-one.one-index
-    no_series _ _ _ c.loop-one-test.true c.either.ensures c.loop-one.invariant c.has_endless.ensures
+    no_series _ _ _ c.loop-one-test.true c.either-found.ensures c.loop-one.invariant c.has_endless.ensures
