@@ -116,7 +116,12 @@ fn push_notes(text: &mut String, series: &[Series<'_>]) -> Result<(), AllocError
 fn push_endless_note(text: &mut String, series: &[Series<'_>]) -> Result<(), AllocError>
     ensures { OnOk result (string_bytes text.new ≡ string_bytes text.old ++ endless_note series.now) }
 {
-    push_note_if(text, has_endless_series(series), ENDLESS_PLACE, ENDLESS_NOTE)
+    push_note_if(
+        text,
+        has_endless_series(series),
+        ENDLESS_PLACE,
+        ENDLESS_NOTE,
+    )
 }
 
 /// Appends a note on the bands, if there are any.
@@ -140,12 +145,7 @@ const BAND_PLACE: &str = "x=\"924\" y=\"33\" text-anchor=\"end\"";
 const BAND_NOTE: &str = "line: mean; band: minimum to maximum";
 
 /// Appends a note, if it applies.
-fn push_note_if(
-    text: &mut String,
-    applies: bool,
-    place: &str,
-    note: &str,
-) -> Result<(), AllocError>
+fn push_note_if(text: &mut String, applies: bool, place: &str, note: &str) -> Result<(), AllocError>
     ensures { OnOk result (string_bytes text.new
         ≡ string_bytes text.old ++ note_text applies place.now note.now) }
 {

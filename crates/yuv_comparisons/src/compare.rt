@@ -27,8 +27,7 @@ use v_frame_y4m::StreamHeader;
 use yuv_reports::{Report, ReportForm};
 use yuv_system::{
     Fault, ProgressLine, Status, System, begin, expected_frames, header_differences, is_broken,
-    open_file, stream_comparison, test_compared, write_above, write_differences,
-    write_formats,
+    open_file, stream_comparison, test_compared, write_above, write_differences, write_formats,
 };
 use yuv_words::{Call, Options};
 
@@ -64,12 +63,7 @@ where
     system.progress.expect(expected_frames(&one, len));
     write_formats(system.progress.out(), one.header(), other.header());
     check_formats(&one, &other)?;
-    warn_of_headers(
-        system.progress.out(),
-        options,
-        one.header(),
-        other.header(),
-    );
+    warn_of_headers(system.progress.out(), options, one.header(), other.header());
     let out = &mut system.output;
     let progress = &mut system.progress;
     let mut above = Above::new();

@@ -22,7 +22,8 @@ use yuv_files::{FileKind, SystemFile};
 use yuv_pictures::{Found, PictureError, PlaneDifference, differences, write_difference_picture};
 use yuv_system::{
     Fault, Output, Status, System, Target, begin, frames_before, is_standard_output, most_pixels,
-    no_memory, open_file, read_behind, test_target, write_above, write_made, write_text, write_formats,
+    no_memory, open_file, read_behind, test_target, write_above, write_formats, write_made,
+    write_text,
 };
 use yuv_words::{Call, Options};
 
@@ -64,12 +65,7 @@ where
     frames_before(options.frame)?;
     write_formats(system.progress.out(), one.header(), other.header());
     check_formats(&one, &other)?;
-    warn_of_headers(
-        system.progress.out(),
-        options,
-        one.header(),
-        other.header(),
-    );
+    warn_of_headers(system.progress.out(), options, one.header(), other.header());
     let mut above = Above::new();
     let drawn = write_difference(
         rt.alloc(),

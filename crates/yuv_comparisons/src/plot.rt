@@ -20,7 +20,7 @@ use v_frame_streams::{
 use yuv_files::{FileKind, SystemFile};
 use yuv_system::{
     Fault, Output, Status, System, Target, begin, expected_frames, is_broken, no_memory, open_file,
-    taken_of_both, test_compared, test_target, write_text, write_formats,
+    taken_of_both, test_compared, test_target, write_formats, write_text,
 };
 use yuv_words::{Call, Options};
 
@@ -58,12 +58,7 @@ where
     let mut other = begin(system, second, &mut other_file, options.raw_second)?;
     write_formats(system.progress.out(), one.header(), other.header());
     check_formats(&one, &other)?;
-    warn_of_headers(
-        system.progress.out(),
-        options,
-        one.header(),
-        other.header(),
-    );
+    warn_of_headers(system.progress.out(), options, one.header(), other.header());
     system.progress.expect(expected_frames(&one, len));
     let progress = &mut system.progress;
     let names = (first, second);
@@ -303,7 +298,11 @@ fn push_names(
     } else {
         format!(in alloc; "{one} and {other}")?
     };
-    push_text(text, "x=\"76\" y=\"15\" font-family=\"sans-serif\" font-size=\"13\" fill=\"#333333\"", names.as_str())
+    push_text(
+        text,
+        "x=\"76\" y=\"15\" font-family=\"sans-serif\" font-size=\"13\" fill=\"#333333\"",
+        names.as_str(),
+    )
 }
 
 /// Returns a name with at most 48 characters: of a longer one the first and the last, and three dots between them.

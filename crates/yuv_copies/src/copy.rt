@@ -15,15 +15,14 @@ use v_frame::chroma::ChromaSubsampling;
 use v_frame_formats::Rectangle;
 use v_frame_planar::subsample_ratio_or_one;
 use v_frame_rgb::ColorRange;
-use v_frame_streams::{
-    CopyOptions, Place, Progress, Sink, Source, StreamError, copy_stream,
-};
+use v_frame_streams::{CopyOptions, Place, Progress, Sink, Source, StreamError, copy_stream};
 use v_frame_y4m::{Interlacing, StreamHeader};
 use yuv_files::{FileKind, SystemFile, shown_name, write_message};
 use yuv_pictures::greatest_value;
 use yuv_system::{
     Fault, Output, Status, System, Target, begin, copy_sink, declared_range, expected_frames,
-    is_broken, is_standard_output, nothing_taken, open_file, stream_copy, test_limit, test_target, write_size_of_crop,
+    is_broken, is_standard_output, nothing_taken, open_file, stream_copy, test_limit, test_target,
+    write_size_of_crop,
 };
 use yuv_words::{Call, Options};
 
@@ -177,7 +176,10 @@ fn warnings_of(options: &Options, header: &StreamHeader) -> [Option<CopyWarning>
     ensures { result ≡ warning_on_fields options.now.half options.now.format header.now
         ∷ (warning_on_range options.now.format header.now ∷ []) }
 {
-    [field_warning(options, header), range_warning(options, header)]
+    [
+        field_warning(options, header),
+        range_warning(options, header),
+    ]
 }
 
 /// Returns the warning on a copy that blends fields.

@@ -175,11 +175,7 @@ pub fn write_differences<E: io::Write>(messages: &mut E, found: &HeaderDifferenc
 
 /// Writes a message with the sizes, the chroma formats and the bit depths of two streams, as far as they differ. Such streams are not
 /// compared.
-pub fn write_formats<E: io::Write>(
-    messages: &mut E,
-    first: &StreamHeader,
-    second: &StreamHeader,
-) {
+pub fn write_formats<E: io::Write>(messages: &mut E, first: &StreamHeader, second: &StreamHeader) {
     let (one, other) = (size_of(first), size_of(second));
     if one.width != other.width || one.height != other.height {
         write_disagreement(messages, "size", &one, &other);
@@ -318,6 +314,9 @@ impl<D: fmt::Display> fmt::Display for Disagreement<'_, D> {
             one,
             other,
         } = *self;
-        write!(f, "the headers disagree on the {property}: {one} and {other}")
+        write!(
+            f,
+            "the headers disagree on the {property}: {one} and {other}"
+        )
     }
 }
