@@ -48,17 +48,19 @@ has_endless_series series = fold (λ found one. found || has_endless one.values.
 abbrev pub note_text : Bool → List ℕ → List ℕ → List ℕ
 note_text applies place note = if applies then text_of place note else []
 
--- notes on the marks at the top and on the bands
+-- the note on the marks at the top
 unfoldable pub endless_note : List Series → List ℕ
 endless_note series =
     note_text (has_endless_series series) (codes "x=\"924\" y=\"16\" text-anchor=\"end\"")
     (codes "marks at the top: infinite, as of identical frames")
 
+-- the note on the bands
 unfoldable pub band_note : List Series → List ℕ
 band_note series =
     note_text (nat_lt room (frames_of series)) (codes "x=\"924\" y=\"33\" text-anchor=\"end\"")
     (codes "line: mean; band: minimum to maximum")
 
+-- both notes
 unfoldable pub notes_text : List Series → List ℕ
 notes_text series = endless_note series ++ band_note series
 
