@@ -62,17 +62,13 @@ where
     }
     system.progress.expect(expected_frames(&one, len));
     check_formats(&one, &other)?;
-    warn_of_headers(
-        system.progress.out(),
-        options,
-        one.header(),
-        other.header(),
-    );
+    warn_of_headers(system.progress.out(), options, one.header(), other.header());
     let out = &mut system.output;
     let progress = &mut system.progress;
     let names = (first, second);
-    let (_out, found) =
-        report_comparison(alloc, &mut one, &mut other, options, out, progress, names)?;
+    let (_out, found) = report_comparison(
+        alloc, &mut one, &mut other, options, out, progress, names,
+    )?;
     Ok(comparison_status(&found))
 }
 

@@ -63,12 +63,7 @@ where
     let mut output = Output::open(rt, &target, &mut system.output, system.progress.out())?;
     frames_before(options.frame)?;
     check_formats(&one, &other)?;
-    warn_of_headers(
-        system.progress.out(),
-        options,
-        one.header(),
-        other.header(),
-    );
+    warn_of_headers(system.progress.out(), options, one.header(), other.header());
     let mut above = Above::new();
     let drawn = write_difference(
         rt.alloc(),

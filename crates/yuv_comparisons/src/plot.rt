@@ -57,12 +57,7 @@ where
     let mut other_file = open_file(rt, second, Place::Second, &mut system.input)?;
     let mut other = begin(system, second, &mut other_file, options.raw_second)?;
     check_formats(&one, &other)?;
-    warn_of_headers(
-        system.progress.out(),
-        options,
-        one.header(),
-        other.header(),
-    );
+    warn_of_headers(system.progress.out(), options, one.header(), other.header());
     system.progress.expect(expected_frames(&one, len));
     let progress = &mut system.progress;
     let names = (first, second);

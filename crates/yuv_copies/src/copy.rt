@@ -16,9 +16,7 @@ use v_frame::chroma::ChromaSubsampling;
 use v_frame_formats::Rectangle;
 use v_frame_planar::subsample_ratio_or_one;
 use v_frame_rgb::ColorRange;
-use v_frame_streams::{
-    CopyOptions, Place, Progress, Sink, Source, StreamError, copy_stream,
-};
+use v_frame_streams::{CopyOptions, Place, Progress, Sink, Source, StreamError, copy_stream};
 use v_frame_y4m::{Interlacing, StreamHeader};
 use yuv_files::{FileKind, SystemFile, shown_name, write_message};
 use yuv_pictures::greatest_value;

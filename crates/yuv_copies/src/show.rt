@@ -18,7 +18,9 @@ use v_frame_formats::Component;
 use v_frame_streams::{Picture, Place, Rectangle, Source, StreamError, check_crop, crop_frame};
 use v_frame_y4m::StreamHeader;
 use yuv_files::{FileKind, SystemFile};
-use yuv_pictures::{Colors, PictureError, has_sample_above, write_frame_picture, write_plane_picture};
+use yuv_pictures::{
+    Colors, PictureError, has_sample_above, write_frame_picture, write_plane_picture,
+};
 use yuv_system::{
     Fault, Output, Status, System, Target, begin, frames_before, is_standard_output, matrix_name,
     most_pixels, no_memory, open_file, range_name, read_behind, test_pixels, test_target,

@@ -139,11 +139,46 @@ fn kind_of_extension(extension: &str) -> Option<FileKind> {
         "yuv" | "raw" | "i420" | "yv12" | "nv12" | "nv21" | "p010" => Some(FileKind::Raw),
         "png" => Some(FileKind::Png),
         "svg" => Some(FileKind::Svg),
-        "jpg" | "jpeg" | "gif" | "bmp" | "tif" | "tiff" | "webp" | "avif" | "heic" | "jxl" | "ppm"
-        | "pgm" | "pnm" | "pdf" => Some(FileKind::OtherPicture),
-        "mp4" | "m4v" | "mkv" | "webm" | "mov" | "avi" | "ts" | "m2ts" | "mpg" | "mpeg" | "mxf" | "flv"
-        | "wmv" | "ogv" | "3gp" | "ivf" | "obu" | "264" | "h264" | "avc" | "265" | "h265" | "hevc"
-        | "266" | "vvc" | "av1" => Some(FileKind::Container),
+        "jpg"
+        | "jpeg"
+        | "gif"
+        | "bmp"
+        | "tif"
+        | "tiff"
+        | "webp"
+        | "avif"
+        | "heic"
+        | "jxl"
+        | "ppm"
+        | "pgm"
+        | "pnm"
+        | "pdf" => Some(FileKind::OtherPicture),
+        "mp4"
+        | "m4v"
+        | "mkv"
+        | "webm"
+        | "mov"
+        | "avi"
+        | "ts"
+        | "m2ts"
+        | "mpg"
+        | "mpeg"
+        | "mxf"
+        | "flv"
+        | "wmv"
+        | "ogv"
+        | "3gp"
+        | "ivf"
+        | "obu"
+        | "264"
+        | "h264"
+        | "avc"
+        | "265"
+        | "h265"
+        | "hevc"
+        | "266"
+        | "vvc"
+        | "av1" => Some(FileKind::Container),
         _ => None,
     }
 }

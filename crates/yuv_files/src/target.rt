@@ -86,9 +86,7 @@ pub fn target_facts<H: Files + AllocGlobal>(
 ) -> io::Result<TargetFacts> {
     let named = kind_of_name(rt.alloc(), name)?;
     let is_replaced = match fs::metadata(rt, name) {
-        Ok(found) if found.is_file() => {
-            matches!(resolve_links(rt, name)?, Destination::Name(_))
-        }
+        Ok(found) if found.is_file() => { matches!(resolve_links(rt, name)?, Destination::Name(_)) }
         _ => false,
     };
     Ok(TargetFacts {

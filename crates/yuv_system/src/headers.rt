@@ -235,6 +235,9 @@ impl<D: fmt::Display> fmt::Display for Disagreement<'_, D> {
             one,
             other,
         } = *self;
-        write!(f, "the headers disagree on the {property}: {one} and {other}")
+        write!(
+            f,
+            "the headers disagree on the {property}: {one} and {other}"
+        )
     }
 }

@@ -8,7 +8,8 @@ use std::io::{self, Write};
 use std::rt::Files;
 use v_frame_streams::Place;
 use yuv_files::{
-    FileKind, SystemFile, TargetFile, Unkept, check_target, is_any_read, target_facts, write_message,
+    FileKind, SystemFile, TargetFile, Unkept, check_target, is_any_read, target_facts,
+    write_message,
 };
 
 /// A file that a command writes, as its call names it.

@@ -7,14 +7,14 @@ ghost use Rattle.yuv_words.specs.declared.option_name.OptionName.{OptionName as 
 
 use crate::command::CommandName;
 use crate::option_help::{
-    ASPECT, COUNT, CROP, CSV, EXACT, FORCE, FORMAT, FRAME, FRAMES, GAIN, HALF, HEADER, HISTOGRAM, JSON,
-    MATRIX, MAX_PIXELS, PLANE, PLANES, PROGRESS, RANGE, RATE, RAW, RAW_OUTPUT, RAW_SECOND, SALVAGE,
-    SKIP, SKIP_SECOND, SSIM,
+    ASPECT, COUNT, CROP, CSV, EXACT, FORCE, FORMAT, FRAME, FRAMES, GAIN, HALF, HEADER, HISTOGRAM,
+    JSON, MATRIX, MAX_PIXELS, PLANE, PLANES, PROGRESS, RANGE, RATE, RAW, RAW_OUTPUT, RAW_SECOND,
+    SALVAGE, SKIP, SKIP_SECOND, SSIM,
 };
 use crate::option_name::OptionName::{
-    Aspect, Count, Crop, Csv, Exact, Force, Format, Frame, Frames, Gain, Half, Header, Histogram, Json,
-    Matrix, MaxPixels, Plane, Planes, Progress, Range, Rate, Raw, RawOutput, RawSecond, Salvage,
-    Skip, SkipSecond, Ssim,
+    Aspect, Count, Crop, Csv, Exact, Force, Format, Frame, Frames, Gain, Half, Header, Histogram,
+    Json, Matrix, MaxPixels, Plane, Planes, Progress, Range, Rate, Raw, RawOutput, RawSecond,
+    Salvage, Skip, SkipSecond, Ssim,
 };
 
 /// An option of some command, by its name.
