@@ -66,13 +66,10 @@ where
     warn_of_headers(system.progress.out(), options, one.header(), other.header());
     let out = &mut system.output;
     let progress = &mut system.progress;
-    let mut above = Above::new();
-    let compared = report_comparison(
-        alloc, &mut one, &mut other, options, out, progress, &mut above,
-    );
-    write_above(system.progress.out(), first, &one, above.first);
-    write_above(system.progress.out(), second, &other, above.second);
-    let (_out, found) = compared?;
+    let names = (first, second);
+    let (_out, found) = report_comparison(
+        alloc, &mut one, &mut other, options, out, progress, names,
+    )?;
     Ok(comparison_status(&found))
 }
 
@@ -96,7 +93,7 @@ fn report_comparison<R: io::Read, S: io::Read, W: io::Write + Drop, H: Clock, E:
     options: &Options,
     out: W,
     progress: &mut ProgressLine<'_, H, E>,
-    above: &mut Above,
+    names: (&str, &str),
 ) -> Result<(W, Comparison), Fault>
     ensures bytes { depth_of first.old.header.color ≡ 8 → IfOk result (λ done.
         ComparesFrom one_byte (sizes_in first.old.header)
@@ -124,15 +121,28 @@ fn report_comparison<R: io::Read, S: io::Read, W: io::Write + Drop, H: Clock, E:
     let found = match compare_sources(alloc, first, second, options, &mut observer, progress) {
         Ok(found) => found,
         Err(error) => {
-            *above = observer.above();
-            return Err(report_broken(error, &mut observer, progress));
+            let fault = report_broken(error, &mut observer, progress);
+            warn_of_samples(progress.out(), names, first, second, observer.above());
+            return Err(fault);
         }
     };
-    *above = observer.above();
     test_compared(&found, first, second, &stream_comparison(options))?;
     progress.end();
+    warn_of_samples(progress.out(), names, first, second, observer.above());
     observer.end(&found)?;
     Ok((observer.into_out(), found))
+}
+
+/// Names the first frame of each stream that has samples above its bit depth.
+fn warn_of_samples<R: io::Read, S: io::Read, E: io::Write>(
+    messages: &mut E,
+    names: (&str, &str),
+    first: &Source<R>,
+    second: &Source<S>,
+    above: Above,
+) {
+    write_above(messages, names.0, first, above.first);
+    write_above(messages, names.1, second, above.second);
 }
 
 /// Writes what was found before a stream breaks off, where one does. Returns the fault of the comparison, or that of the report if it

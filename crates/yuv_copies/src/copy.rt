@@ -1,9 +1,10 @@
 //! The command `copy`: a stream is written once more.
-ghost use Rattle.std.specs.Prelude.{◌≡◌, ◌≤◌, ◌<◌, ◌-◌, ◌*◌, ◌%◌, ◌⊎◌, ◌&&◌, ◌∷◌, [], false, IfErr, IfOk, IsTrue, OnOk};
+ghost use Rattle.std.specs.Prelude.{◌≡◌, ◌≤◌, ◌<◌, ◌-◌, ◌*◌, ◌%◌, ◌⊎◌, ◌&&◌, ◌+◌, false, IfErr, IfOk, IsTrue, OnOk};
 ghost use Rattle.yuv_copies.specs.Fields.{has_all_rows, has_fields, halves_rows, KeepsFields};
 ghost use Rattle.yuv_copies.specs.Warnings.{copy_asked, field_warning as warning_on_fields, range_warning as warning_on_range};
 ghost use Rattle.yuv_copies.specs.Targets.{kind_of_copy};
 ghost use Rattle.yuv_system.specs.Options.{KeepsLimit};
+ghost use Rattle.v_frame.specs.Prelude.{usize_max};
 ghost use Rattle.v_frame_streams.specs.Prelude.{bytes_left, Copies};
 ghost use Rattle.yuv_words.specs.declared.command.CommandName.TheVariants.{Copy};
 
@@ -57,11 +58,10 @@ where
     let len = file.len();
     let mut source = begin(system, from, &mut file, options.raw)?;
     test_fields(options, source.header())?;
-    for warning in warnings_of(options, source.header()) {
-        if let Some(warning) = warning {
-            write_message(system.progress.out(), Some(shown_name(from)), &warning);
-        }
-    }
+    let on_fields = field_warning(options, source.header());
+    write_warning(system.progress.out(), from, on_fields);
+    let on_range = range_warning(options, source.header());
+    write_warning(system.progress.out(), from, on_range);
     system.progress.expect(expected_frames(&source, len));
     let mut output = Output::open(rt, &target, &mut system.output, system.progress.out())?;
     let mut sink = copy_sink(options, &mut output);
@@ -171,15 +171,11 @@ fn is_interlaced(header: &StreamHeader) -> bool
     )
 }
 
-/// Returns what a copy does to samples that a user may not expect.
-fn warnings_of(options: &Options, header: &StreamHeader) -> [Option<CopyWarning>; 2]
-    ensures { result ≡ warning_on_fields options.now.half options.now.format header.now
-        ∷ (warning_on_range options.now.format header.now ∷ []) }
-{
-    [
-        field_warning(options, header),
-        range_warning(options, header),
-    ]
+/// Writes a message on a copy of the file of this name, if there is a warning.
+fn write_warning<E: io::Write>(messages: &mut E, name: &str, warning: Option<CopyWarning>) {
+    if let Some(warning) = warning {
+        write_message(messages, Some(shown_name(name)), &warning);
+    }
 }
 
 /// Returns the warning on a copy that blends fields.
@@ -247,16 +243,22 @@ fn test_fields(options: &Options, header: &StreamHeader) -> Result<(), Fault>
     if options.force || !is_interlaced(header) || part.y % step == 0 {
         return Ok(());
     }
+    // No picture has a row so far down that the next multiple is no number.
+    let nearest = match part.y.checked_add(step) {
+        Some(_) => nearest_multiple(part.y, step),
+        None => 0,
+    };
     Err(Fault::SwapsFields {
         place: Place::First,
         from: part.y,
-        nearest: nearest_multiple(part.y, step),
+        nearest,
     })
 }
 
 /// Returns the multiple of `step` that is nearest to a row: of two that are equally near the lesser one.
 fn nearest_multiple(row: usize, step: usize) -> usize
-    requires { 0 < step }
+    requires some { 0 < step }
+    requires room { row + step ≤ usize_max }
     ensures multiple { result % step ≡ 0 }
     ensures near { (result ≤ row × 2 * (row - result) ≤ step) ⊎ (row ≤ result × 2 * (result - row) < step) }
 {
@@ -265,7 +267,7 @@ fn nearest_multiple(row: usize, step: usize) -> usize
     if rest <= step - rest {
         return below;
     }
-    below.saturating_add(step)
+    below + step
 }
 
 /// Returns the options of a copy, which reads whole frames with `--salvage`: as a crop that is the whole picture.
