@@ -171,13 +171,17 @@ class Video:
             text += f"{number} " + " ".join(f"{zlib.crc32(it):08x}" for it in (parts if planes else [b"".join(parts)])) + "\n"
         return text
 
-    def statistics(self):
-        text = ""
+    def statistics(self, full=None):
+        """The lines of `stats`: of the range that the header declares, unless another one is given."""
+        text, most = "", 2 ** self.depth - 1
+        if full is None:
+            full = "XCOLORRANGE=FULL" in self.parameters
         for place, name in enumerate("YUV"[:len(self.sizes())]):
             values = [p for frame in self.frames for row in frame[place] for p in row]
-            low, high = 16 << self.depth - 8, (240 if place else 235) << self.depth - 8
-            outside = sum(not low <= p <= high for p in values)
-            text += f"{name}: minimum {min(values)}, maximum {max(values)}, mean {sum(values) / len(values):.2f}, outside the nominal range {outside}\n"
+            low, high = (0, most) if full else (16 << self.depth - 8, (240 if place else 235) << self.depth - 8)
+            outside, above = sum(p <= most and not low <= p <= high for p in values), sum(p > most for p in values)
+            text += f"{name}: minimum {min(values)}, maximum {max(values)}, mean {sum(values) / len(values):.2f}, outside the nominal range {outside}"
+            text += f", above {most}: {above}\n" if above else "\n"
         return text
 
     def histogram(self):

@@ -1,7 +1,9 @@
 -- A text that is made part by part, one more.
 use Rattle.std.proofs.Common.{ℕ, ◌≡◌, ◌+◌, ◌++◌, List, [], ◌∷◌, map, ap, sym, ◌∙◌, arith, flat_map, append_assoc, length, suc, add-zero, get_or, take, ◌<◌, length-take}
-use Rattle.std.specs.List.{enumerate_from, range_with_len}
+use Rattle.std.specs.List.{enumerate_from, fold, range_with_len}
+use Rattle.std.specs.Prelude.{◌||◌, Bool, false}
 use Rattle.std.proofs.lemmas.List.{flat_map_more, map-id, take_more}
+use Rattle.std.proofs.lemmas.List.Sums.{fold_more}
 use Rattle.v_frame_chart.specs.declared.drawing.Series.{Series}
 use Rattle.std.proofs.lemmas.List.FromFn.{map-range_with_len_more}
 
@@ -62,6 +64,15 @@ entries_more {X} part xs k d first old new within more so_far =
     more ∙ ap (λ (text : List ℕ). text ++ part (k, x)) so_far
     ∙ flat_map_more part first (enumerate_from 0 (take k xs)) (k, x)
     ∙ ap (λ (entries : List (ℕ × X)). first ++ flat_map part entries) (sym one_more)
+
+-- whether one of the items passes a test, one more
+pub any_more : {X : Type 0} (test : X → Bool) (xs : List X) (i : ℕ) (d : X) (old new passes : Bool) → i < length xs
+    → new ≡ (old || passes) → old ≡ fold (λ found x. found || test x) false (take i xs) → passes ≡ test (get_or xs i d)
+    → new ≡ fold (λ found x. found || test x) false (take (i + 1) xs)
+any_more test xs i d old new passes within more so_far is =
+    more ∙ ap (λ (b : Bool). b || passes) so_far
+    ∙ ap (λ (b : Bool). fold (λ found x. found || test x) false (take i xs) || b) is
+    ∙ sym (fold_more (λ (found : Bool) x. found || test x) false xs i d within)
 
 pub ruleset joins = (joined3, joined, append_assoc)
 

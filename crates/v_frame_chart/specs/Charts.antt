@@ -1,15 +1,16 @@
 -- The text of a chart.
-use Rattle.std.specs.Prelude.{ℕ, ◌-◌, ◌≡◌, ◌++◌, nat_lt, List, fold, flat_map, length, max, Option}
+use Rattle.std.specs.Prelude.{ℕ, ◌-◌, ◌≡◌, ◌++◌, ◌||◌, [], nat_lt, if◌then◌else◌, Bool, false, codes, List, fold, flat_map, length, max, min, Option}
 use Rattle.std.specs.List.{enumerate_from}
 use Rattle.std.specs.Io.KnownBytes.{Appends}
 use Rattle.v_frame_chart.specs.Columns.{columns_of}
+use Rattle.v_frame_chart.specs.Endless.{endless_text, has_endless}
 use Rattle.v_frame_chart.specs.Frames.{across_of, frames_text, IsFrameStep}
 use Rattle.v_frame_chart.specs.Lines.{drawn_text}
 use Rattle.v_frame_chart.specs.Marks.{marks_of}
 use Rattle.v_frame_chart.specs.Room.{HasRoom}
 use Rattle.v_frame_chart.specs.Scales.{down_of, grid_text}
 use Rattle.v_frame_bytes.specs.Sending.{AppendsBeginning}
-use Rattle.v_frame_chart.specs.Words.{closing, color_of, head_text, legend_of}
+use Rattle.v_frame_chart.specs.Words.{closing, color_of, head_text, legend_of, text_of}
 use Rattle.v_frame_chart.specs.declared.drawing.Chart.{Chart}
 use Rattle.v_frame_chart.specs.declared.drawing.Series.{Series}
 use Rattle.v_frame_chart.specs.declared.scale.Scale.{Scale}
@@ -26,11 +27,12 @@ frames_of series = fold (λ frames one. max (length one.values.now) frames) 0 se
 unfoldable pub span_of : List Series → ℕ
 span_of series = max (frames_of series - 1) 1
 
--- a series in its color: a mark for each column, with a band where columns have several values
+-- a series in its color: marks at the top, and a mark for each column, with a band if columns have several values
 unfoldable pub series_text : Scale → ℕ → ℕ × Series → List ℕ
 series_text scale span (k, series) =
     let values = series.values.now in
-    drawn_text (marks_of (across_of span) (down_of scale) (length values) (columns_of values room))
+    endless_text (across_of span) values (min (length values) room) k
+    ++ drawn_text (marks_of (across_of span) (down_of scale) (length values) (columns_of values room))
     (nat_lt room (length values)) (color_of k)
 
 -- the series in their order, and then their names
@@ -38,14 +40,38 @@ unfoldable pub all_series : Scale → ℕ → List Series → List ℕ
 all_series scale span series =
     flat_map (series_text scale span) (enumerate_from 0 series)
 
+-- one of the series has an infinite value
+abbrev pub has_endless_series : List Series → Bool
+has_endless_series series = fold (λ found one. found || has_endless one.values.now) false series
+
+-- a note, if it applies
+abbrev pub note_text : Bool → List ℕ → List ℕ → List ℕ
+note_text applies place note = if applies then text_of place note else []
+
+-- the note on the marks at the top
+unfoldable pub endless_note : List Series → List ℕ
+endless_note series =
+    note_text (has_endless_series series) (codes "x=\"924\" y=\"16\" text-anchor=\"end\"")
+    (codes "marks at the top: infinite, as of identical frames")
+
+-- the note on the bands
+unfoldable pub band_note : List Series → List ℕ
+band_note series =
+    note_text (nat_lt room (frames_of series)) (codes "x=\"924\" y=\"33\" text-anchor=\"end\"")
+    (codes "line: mean; band: minimum to maximum")
+
+-- both notes
+unfoldable pub notes_text : List Series → List ℕ
+notes_text series = endless_note series ++ band_note series
+
 -- the picture, over these axes
 unfoldable pub chart_text : Chart → Scale → ℕ → List ℕ
 chart_text chart scale step =
     let series = chart.series.now in
     let span = span_of series in
     head_text chart.title.now chart.unit.now
-    ++ (grid_text scale ++ (frames_text chart.first span step
-    ++ (all_series scale span series ++ (legend_of series ++ closing))))
+    ++ (grid_text scale ++ (frames_text chart.first span (frames_of series - 1) step
+    ++ (all_series scale span series ++ (legend_of series ++ (notes_text series ++ closing)))))
 
 -- a text is the picture of a chart over some axes that have room for it
 pub record IsChart (chart : Chart) (text : List ℕ) : Type 0 where

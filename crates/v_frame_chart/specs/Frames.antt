@@ -41,8 +41,8 @@ mark_count first span step = (span + step - first_mark first step) / step
 unfoldable pub frame_words : ℕ → ℕ → List ℕ
 frame_words tenths number =
     codes "<path d=\"M" ++ (tenths_text tenths
-    ++ (codes " 368V373\" stroke=\"#333333\"/>\n<text x=\"" ++ (tenths_text tenths
-    ++ (codes "\" y=\"387\" text-anchor=\"middle\">" ++ (decimal number
+    ++ (codes " 160V165\" stroke=\"#333333\"/>\n<text x=\"" ++ (tenths_text tenths
+    ++ (codes "\" y=\"177\" text-anchor=\"middle\">" ++ (decimal number
     ++ codes "</text>\n")))))
 
 unfoldable pub frame_mark : Axis → ℕ → ℕ → List ℕ
@@ -51,13 +51,13 @@ frame_mark across first index =
 
 -- both axes, and a mark for each multiple of the step
 unfoldable pub axis_lines : List ℕ
-axis_lines = codes "<path d=\"M76 64V368H924\" fill=\"none\" stroke=\"#333333\"/>\n"
+axis_lines = codes "<path d=\"M76 50V160H924\" fill=\"none\" stroke=\"#333333\"/>\n"
 
 -- the multiples of the step, as so many frames behind the first
 unfoldable pub marked_frames : ℕ → ℕ → ℕ → List ℕ
 marked_frames first span step =
     map (λ k. first_mark first step + k * step) (range_with_len 0 (mark_count first span step))
 
-unfoldable pub frames_text : ℕ → ℕ → ℕ → List ℕ
-frames_text first span step =
-    axis_lines ++ flat_map (frame_mark (across_of span) first) (marked_frames first span step)
+unfoldable pub frames_text : ℕ → ℕ → ℕ → ℕ → List ℕ
+frames_text first span last step =
+    axis_lines ++ flat_map (frame_mark (across_of span) first) (marked_frames first last step)

@@ -1,5 +1,6 @@
 pub mod Charts
 pub mod Columns
+pub mod Endless
 pub mod Frames
 pub mod Labels
 pub mod Lines

@@ -43,8 +43,8 @@ down_of scale =
     record {
       low = value_at scale 0;
       high = value_at scale scale.count;
-      start = of_int binary64 (pos 368);
-      end = of_int binary64 (pos 64);
+      start = of_int binary64 (pos 160);
+      end = of_int binary64 (pos 50);
     }
 
 -- the last p digits of a number, one by one

@@ -25,26 +25,25 @@ text_end = codes "</text>\n"
 unfoldable pub text_of : List ℕ → List ℕ → List ℕ
 text_of attributes words = text_head attributes ++ (escaped_words words ++ text_end)
 
--- the head of the file: 960 by 420 pixels, white
+-- the head of the file: 960 by 200 pixels, white
 unfoldable pub opening : List ℕ
 opening =
-    codes "<svg xmlns=\"http://www.w3.org/2000/svg\" width=\"960\" height=\"420\" "
-    ++ (codes "viewBox=\"0 0 960 420\" font-family=\"sans-serif\" font-size=\"12\" "
-    ++ codes "fill=\"#333333\">\n<rect width=\"960\" height=\"420\" fill=\"#ffffff\"/>\n")
+    codes "<svg xmlns=\"http://www.w3.org/2000/svg\" width=\"960\" height=\"200\" "
+    ++ (codes "viewBox=\"0 0 960 200\" font-family=\"sans-serif\" font-size=\"12\" "
+    ++ codes "fill=\"#333333\">\n<rect width=\"960\" height=\"200\" fill=\"#ffffff\"/>\n")
 
 unfoldable pub closing : List ℕ
 closing = codes "</svg>\n"
 
--- the title above, the unit beside the axis of numbers, and a word below that of frames
+-- the title, the unit above the labels of the axis of numbers, and a word below the axis of frames
 unfoldable pub title_of : List ℕ → List ℕ
-title_of title = text_of (codes "x=\"76\" y=\"24\" font-size=\"16\" font-weight=\"bold\"") title
+title_of title = text_of (codes "x=\"76\" y=\"16\" font-size=\"14\" font-weight=\"bold\"") title
 
 unfoldable pub unit_of : List ℕ → List ℕ
-unit_of unit =
-    text_of (codes "transform=\"translate(22 216) rotate(-90)\" text-anchor=\"middle\"") unit
+unit_of unit = text_of (codes "x=\"68\" y=\"33\" text-anchor=\"end\"") unit
 
 unfoldable pub frame_word : List ℕ
-frame_word = text_of (codes "x=\"500\" y=\"408\" text-anchor=\"middle\"") (codes "frame")
+frame_word = text_of (codes "x=\"500\" y=\"194\" text-anchor=\"middle\"") (codes "frame")
 
 unfoldable pub head_text : List ℕ → List ℕ → List ℕ
 head_text title unit = opening ++ (title_of title ++ (unit_of unit ++ frame_word))
@@ -64,5 +63,5 @@ entry_of (k, series) =
 
 unfoldable pub legend_of : List Series → List ℕ
 legend_of series =
-    text_head (codes "x=\"56\" y=\"50\"")
+    text_head (codes "x=\"56\" y=\"33\"")
     ++ (flat_map entry_of (enumerate_from 0 series) ++ text_end)

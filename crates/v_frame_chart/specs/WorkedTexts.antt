@@ -100,13 +100,13 @@ sample color =
     ++ codes "\">&#8212;</tspan> "
 
 legend : legend_of (named (codes "Y") ∷ named (codes "<U>") ∷ [])
-    ≡ codes "<text x=\"56\" y=\"50\">"
+    ≡ codes "<text x=\"56\" y=\"33\">"
     ++ sample (codes "#0072b2") ++ codes "<tspan>Y</tspan>"
     ++ sample (codes "#d55e00") ++ codes "<tspan>&lt;U&gt;</tspan></text>\n"
 unfolding legend_of text_head entry_of sample_of color_of name_end text_end chars encode
 legend = refl
 
 title : title_of (codes "a < b")
-    ≡ codes "<text x=\"76\" y=\"24\" font-size=\"16\" font-weight=\"bold\">a &lt; b</text>\n"
+    ≡ codes "<text x=\"76\" y=\"16\" font-size=\"14\" font-weight=\"bold\">a &lt; b</text>\n"
 unfolding title_of text_of text_head text_end chars encode
 title = refl

@@ -1,8 +1,8 @@
-//! Where values and frames lie in the picture.
+//! The places of values and frames in the picture.
 ghost use Rattle.std.specs.Prelude.{◌≡◌};
 ghost use Rattle.v_frame_chart.specs.Marks.{place_of};
 
-/// The values between which an axis goes, and the place in the picture of each end.
+/// The values at both ends of an axis, and the places of both ends in the picture, in pixels.
 #[derive(Clone, Copy)]
 pub(crate) struct Axis {
     pub low: f64,

@@ -1,4 +1,4 @@
-//! The values of a series, gathered into as many columns as are drawn.
+//! The values of a series, summarized column by column.
 ghost use Rattle.std.specs.Prelude.{◌≡◌, ◌+◌, ◌<◌, ◌≤◌, IfOk, false, min, length, true};
 ghost use Rattle.std.specs.Float.Ieee.{inf};
 ghost use Rattle.v_frame_chart.specs.Columns.{columns_of, greater, lesser, start_of as the_start, summary_of};
@@ -6,7 +6,7 @@ ghost use Rattle.v_frame_chart.specs.Columns.{columns_of, greater, lesser, start
 use std::alloc::{AllocError, Global};
 use std::num::nearest_usize_to_f64;
 
-/// The values of a column that are finite: the least and the greatest of them, and their mean.
+/// The least, the mean and the greatest finite value of a column.
 #[derive(Clone, Copy)]
 pub struct Summary {
     /// The least value.
@@ -17,13 +17,13 @@ pub struct Summary {
     pub most: f64,
 }
 
-/// Returns the columns of a series where there is room for so many. There are no more of them than values.
+/// Returns the summaries of at most `room` columns of a series. There are no more columns than values.
 ///
-/// Column `k` of `n` has the values from index `k * length / n` on. `None` stands where none of them is finite.
+/// Column `k` of `n` begins at the value with the index `k * length / n`. A column without a finite value is `None`.
 ///
 /// # Errors
 ///
-/// [`AllocError`] where a request for memory was refused.
+/// Returns [`AllocError`] if there is not enough memory.
 pub fn summaries(
     alloc: Global,
     values: &[f64],
@@ -41,7 +41,7 @@ pub fn summaries(
     Ok(found)
 }
 
-/// Returns the index of the first value of column `k` of so many.
+/// Returns the index of the first value of column `k` of `columns`.
 pub(crate) fn start_of(values: usize, columns: usize, k: usize) -> usize
     requires some { 0 < columns }
     requires within { k ≤ columns }
@@ -51,7 +51,7 @@ pub(crate) fn start_of(values: usize, columns: usize, k: usize) -> usize
     (k as u128 * values as u128 / columns as u128) as usize
 }
 
-/// Returns what the finite values are. `None` exactly where there are none.
+/// Returns the summary of the finite values, or `None` if there are none.
 fn summarized(values: &[f64]) -> Option<Summary>
     ensures { result ≡ summary_of values.now }
 {

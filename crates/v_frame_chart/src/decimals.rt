@@ -23,7 +23,7 @@ fn push_sign(text: &mut String, negative: bool) -> Result<(), AllocError>
     if negative { text.push_str("-") } else { Ok(()) }
 }
 
-/// Appends a size times a power of ten: with a point where the power is small, and else with an exponent.
+/// Appends a size times a power of ten: with a decimal point if the power is small, and otherwise with an exponent.
 #[tactic(auto, unfolding(crate::specs::Scales::size_text))]
 fn push_size(text: &mut String, size: u64, power: Power) -> Result<(), AllocError>
     ensures { OnOk result (string_bytes text.new ≡ string_bytes text.old ++ size_text size power) }
@@ -46,7 +46,7 @@ fn push_size(text: &mut String, size: u64, power: Power) -> Result<(), AllocErro
     }
 }
 
-/// Appends a size with an exponent, but zero as it is.
+/// Appends a size with an exponent, or `0` if the size is 0.
 fn push_exponent(text: &mut String, size: u64, letters: &str, p: u32) -> Result<(), AllocError>
     ensures { OnOk result (string_bytes text.new ≡ string_bytes text.old
         ++ exponent_text size letters.now p) }

@@ -1,20 +1,30 @@
-//! The choice of the axis of numbers: any scale is a true one, and this one is fine to read.
+//! The choice of the axis of numbers. A chart is correct with any scale that contains the values; this choice is easy to read.
 ghost use Rattle.std.specs.Prelude.{◌+ℤ◌, ◌≤ℤ◌, ◌^◌, negsuc, pos};
 
 use crate::scale::{Digit, Power, Scale};
 use crate::ticks::value_of;
 use std::num::saturating_f64_to_i64;
 
-/// How far apart marks are at least, in parts of the greater size of the numbers.
+/// The least distance of two marks, as a fraction of the greater absolute value.
 const FINEST: f64 = 1e-12;
 
-/// Returns a scale with two finite numbers between its ends, and at most six steps between them.
+/// Returns a scale with two finite numbers between its ends, and at most six steps between them. If the numbers are equal, the scale
+/// begins or ends at 0.
 pub(crate) fn scale_between(low: f64, high: f64) -> Scale {
-    let apart = if low < high {
-        high / 6.0 - low / 6.0
+    if low < high {
+        scale_apart(low, high)
+    } else if low < 0.0 {
+        scale_apart(low, 0.0)
+    } else if low > 0.0 {
+        scale_apart(0.0, low)
     } else {
-        1.0
-    };
+        scale_apart(0.0, 1.0)
+    }
+}
+
+/// Returns a scale with two finite numbers between its ends, the lesser first, and at most six steps between them.
+fn scale_apart(low: f64, high: f64) -> Scale {
+    let apart = high / 6.0 - low / 6.0;
     let (digit, power) = step_from(apart.max(low.abs() * FINEST).max(high.abs() * FINEST));
     let step = value_of(digit.times(1), power);
     let mut first = whole((low / step).floor());
@@ -47,7 +57,7 @@ fn scale_of_steps(first: i64, last: i64, digit: Digit, power: Power) -> Scale
     }
 }
 
-/// Returns a whole number, or the nearest that is not too large.
+/// Returns the nearest whole number that is not too large.
 fn whole(number: f64) -> i64
     ensures low { negsuc (2 ^ 50) ≤ℤ result }
     ensures high { result ≤ℤ pos (2 ^ 50) }
@@ -55,7 +65,7 @@ fn whole(number: f64) -> i64
     saturating_f64_to_i64(number).clamp(-(1 << 50), 1 << 50)
 }
 
-/// Returns the least of 1, 2 and 5 times a power of ten that is at least a number.
+/// Returns the least step, 1, 2 or 5 times a power of ten, that is at least `least`.
 fn step_from(least: f64) -> (Digit, Power) {
     let mut step = (Digit::One, Power::Times(0));
     if least > 1.0 {

@@ -8,7 +8,7 @@ use crate::places::Place;
 use std::alloc::AllocError;
 use std::num::nearest_u64_to_f64;
 
-/// Returns the axis from the first frame over so many more.
+/// Returns the axis from the first frame to the frame `span` frames after it.
 #[tactic(auto, unfolding(crate::specs::Frames::across_of))]
 pub(crate) fn across_of(span: u64) -> Axis
     ensures { result ≡ the_across span }
@@ -21,7 +21,7 @@ pub(crate) fn across_of(span: u64) -> Axis
     }
 }
 
-/// Returns the least of 1, 2 and 5 times a power of ten of which a span has at most eight.
+/// Returns the least of 1, 2, 5, 10, 20, 50 and so on that fits at most eight times into a span.
 pub(crate) fn frame_step(span: u64) -> u64
     requires { span < 2 ^ 63 }
     ensures step { IsFrameStep span result }
@@ -36,7 +36,7 @@ pub(crate) fn frame_step(span: u64) -> u64
     span
 }
 
-/// How many of the numbers 1, 2, 5, 10 and so on there are, up to one that is an eighth of any span.
+/// The number of steps 1, 2, 5, 10 and so on, up to an eighth of the greatest span.
 const ROUND_NUMBERS: u32 = 57;
 
 /// Returns one of the numbers 1, 2, 5, 10 and so on.
@@ -54,21 +54,23 @@ fn round_number(k: u32) -> u64
     }
 }
 
-/// Appends both axes, and a mark and the number of each frame whose number is a multiple of the step.
+/// Appends both axes, and a mark and the number of each frame, up to `last` after the first, whose number is a multiple of `step`. The
+/// axis extends over `span` frames after the first, which is more than `last` if there is only one frame.
 #[tactic(auto, using(crate::proofs::Appended::joins), unfolding(crate::specs::Frames::frames_text))]
 pub(crate) fn push_frames(
     text: &mut String,
     first: u64,
     span: u64,
+    last: u64,
     step: u64,
 ) -> Result<(), AllocError>
     requires some { 0 < step }
-    requires bound { span < 2 ^ 63 }
+    requires bound { last < 2 ^ 63 }
     ensures { OnOk result (string_bytes text.new ≡ string_bytes text.old
-        ++ frames_text first span step) }
+        ++ frames_text first span last step) }
 {
     push_axis_lines(text)?;
-    push_frame_marks(text, first, span, step)?;
+    push_frame_marks(text, first, span, last, step)?;
     Ok(())
 }
 
@@ -77,25 +79,31 @@ pub(crate) fn push_frames(
 fn push_axis_lines(text: &mut String) -> Result<(), AllocError>
     ensures { OnOk result (string_bytes text.new ≡ string_bytes text.old ++ axis_lines) }
 {
-    text.push_str("<path d=\"M76 64V368H924\" fill=\"none\" stroke=\"#333333\"/>\n")
+    text.push_str("<path d=\"M76 50V160H924\" fill=\"none\" stroke=\"#333333\"/>\n")
 }
 
 /// Appends a mark and the number of each frame whose number is a multiple of the step.
-fn push_frame_marks(text: &mut String, first: u64, span: u64, step: u64) -> Result<(), AllocError>
+fn push_frame_marks(
+    text: &mut String,
+    first: u64,
+    span: u64,
+    last: u64,
+    step: u64,
+) -> Result<(), AllocError>
     requires some { 0 < step }
-    requires bound { span < 2 ^ 63 }
+    requires bound { last < 2 ^ 63 }
     ensures { OnOk result (string_bytes text.new ≡ string_bytes text.old
-        ++ flat_map (frame_mark (the_across span) first) (marked_frames first span step)) }
+        ++ flat_map (frame_mark (the_across span) first) (marked_frames first last step)) }
 {
     let across = across_of(span);
     let start = first_mark(first, step);
-    for k in 0..mark_count(first, span, step) {
+    for k in 0..mark_count(first, last, step) {
         push_frame_mark(text, across, first, start + k * step)?;
     }
     Ok(())
 }
 
-/// Returns how many frames behind the first the first multiple of the step is.
+/// Returns the distance in frames from the first frame to the first multiple of the step.
 #[tactic(auto, unfolding(crate::specs::Frames::first_mark))]
 fn first_mark(first: u64, step: u64) -> u64
     requires { 0 < step }
@@ -105,7 +113,7 @@ fn first_mark(first: u64, step: u64) -> u64
     (step - first % step) % step
 }
 
-/// Returns how many multiples of the step there are.
+/// Returns the number of multiples of the step.
 #[tactic(auto, unfolding(crate::specs::Frames::mark_count))]
 fn mark_count(first: u64, span: u64, step: u64) -> u64
     requires some { 0 < step }
@@ -120,7 +128,7 @@ fn mark_count(first: u64, span: u64, step: u64) -> u64
     }
 }
 
-/// Appends the mark and the number of a frame, so many behind the first.
+/// Appends the mark and the number of the frame `index` frames after the first.
 #[tactic(auto, unfolding(crate::specs::Frames::frame_mark))]
 fn push_frame_mark(
     text: &mut String,
@@ -144,7 +152,7 @@ fn push_frame_words(text: &mut String, x: Place, number: u128) -> Result<(), All
 {
     write!(
         text,
-        "<path d=\"M{x} 368V373\" stroke=\"#333333\"/>\n\
-         <text x=\"{x}\" y=\"387\" text-anchor=\"middle\">{number}</text>\n"
+        "<path d=\"M{x} 160V165\" stroke=\"#333333\"/>\n\
+         <text x=\"{x}\" y=\"177\" text-anchor=\"middle\">{number}</text>\n"
     )
 }

@@ -1,11 +1,11 @@
-//! Words with XML's escapes.
+//! Texts with the escapes of XML.
 ghost use Rattle.std.specs.Prelude.{◌≡◌, ◌++◌, OnOk, string_bytes};
 ghost use Rattle.v_frame_chart.specs.Labels.{allowed, escaped, escaped_words};
 
 use std::alloc::AllocError;
 
-/// Appends words, with XML's escapes for what would end a text or an attribute, and `?` for characters that XML does
-/// not allow.
+/// Appends a text. Characters that would end a text or an attribute of XML are escaped, and `?` replaces characters that XML does not
+/// allow.
 pub(crate) fn push_escaped(text: &mut String, words: &str) -> Result<(), AllocError>
     ensures { OnOk result (string_bytes text.new ≡ string_bytes text.old ++ escaped_words words.now) }
 {

@@ -1,4 +1,4 @@
-//! What is drawn of a series: its band, the line through its means, and its dots.
+//! The drawing of a series: its band, the line through its means, and its dots.
 ghost use Rattle.std.specs.Prelude.{◌≡◌, ◌++◌, ◌<◌, [], OnOk, flat_map, if◌then◌else◌, is_some, length, string_bytes};
 ghost use Rattle.std.specs.List.{range_with_len};
 ghost use Rattle.v_frame_chart.specs.Lines.{band_head, band_text, circle_of, dot_part, dots_text, drawn_text, is_joined as the_joined, mark_after, mark_before, mean_at, mean_part, means_head, means_text, path_end, stroke_of};
@@ -7,7 +7,7 @@ use crate::marks::Mark;
 use crate::places::Place;
 use std::alloc::AllocError;
 
-/// Appends a series: a band where columns have more than one value, and a line through the means.
+/// Appends a series: a band if columns have more than one value, a line through the means, and dots.
 #[tactic(auto, using(crate::proofs::Appended::joins), unfolding(crate::specs::Lines::drawn_text))]
 pub(crate) fn push_drawn(
     text: &mut String,
@@ -24,7 +24,7 @@ pub(crate) fn push_drawn(
     Ok(())
 }
 
-/// Appends a band, where one is wanted.
+/// Appends a band, if `banded` is true.
 fn push_band_if(
     text: &mut String,
     drawn: &[Option<Mark>],
@@ -93,13 +93,13 @@ fn push_stroke(text: &mut String, mark: Option<Mark>) -> Result<(), AllocError>
 }
 
 /// Appends the end of a path.
-fn push_path_end(text: &mut String) -> Result<(), AllocError>
+pub(crate) fn push_path_end(text: &mut String) -> Result<(), AllocError>
     ensures { OnOk result (string_bytes text.new ≡ string_bytes text.old ++ path_end) }
 {
     text.push_str("\"/>\n")
 }
 
-/// Appends the line through the means, which begins anew after a gap.
+/// Appends the line through the means. After a gap, a new line begins.
 #[tactic(auto, using(crate::proofs::Appended::joins), unfolding(crate::specs::Lines::means_text))]
 fn push_means(text: &mut String, drawn: &[Option<Mark>], color: &str) -> Result<(), AllocError>
     ensures { OnOk result (string_bytes text.new
@@ -134,7 +134,7 @@ fn push_each_mean(text: &mut String, drawn: &[Option<Mark>]) -> Result<(), Alloc
     Ok(())
 }
 
-/// Appends a mean: a line to it from the one before, where there is one.
+/// Appends a mean: a line from the mean before it if `joined` is true, and otherwise the start of a line.
 fn push_mean(text: &mut String, mark: Option<Mark>, joined: bool) -> Result<(), AllocError>
     ensures { OnOk result (string_bytes text.new ≡ string_bytes text.old ++ mean_part mark joined) }
 {
@@ -148,7 +148,7 @@ fn push_mean(text: &mut String, mark: Option<Mark>, joined: bool) -> Result<(), 
     }
 }
 
-/// Appends a dot for each column that stands between two gaps, where the line has no length.
+/// Appends a dot for each column between two gaps, because the line has no length there.
 #[tactic(auto, unfolding(crate::specs::Lines::dots_text))]
 fn push_dots(text: &mut String, drawn: &[Option<Mark>], color: &str) -> Result<(), AllocError>
     ensures { OnOk result (string_bytes text.new
@@ -160,7 +160,7 @@ fn push_dots(text: &mut String, drawn: &[Option<Mark>], color: &str) -> Result<(
     Ok(())
 }
 
-/// Appends a dot, where a mark has no line to it.
+/// Appends a dot, if no line leads to the mark.
 fn push_dot(
     text: &mut String,
     mark: Option<Mark>,
@@ -195,7 +195,7 @@ fn push_circle(text: &mut String, mark: Mark, color: &str) -> Result<(), AllocEr
     )
 }
 
-/// Returns whether a column beside one has a value.
+/// Returns whether the column before or after column `k` has a value.
 fn is_joined(drawn: &[Option<Mark>], k: usize) -> bool
     requires { k < length drawn.now }
     ensures { result ≡ the_joined drawn.now k }
@@ -203,7 +203,7 @@ fn is_joined(drawn: &[Option<Mark>], k: usize) -> bool
     has_before(drawn, k) || has_after(drawn, k)
 }
 
-/// Returns whether the column before one has a value.
+/// Returns whether the column before column `k` has a value.
 fn has_before(drawn: &[Option<Mark>], k: usize) -> bool
     requires { k < length drawn.now }
     ensures { result ≡ is_some (mark_before drawn.now k) }
@@ -211,7 +211,7 @@ fn has_before(drawn: &[Option<Mark>], k: usize) -> bool
     k > 0 && drawn[k - 1].is_some()
 }
 
-/// Returns whether the column after one has a value.
+/// Returns whether the column after column `k` has a value.
 fn has_after(drawn: &[Option<Mark>], k: usize) -> bool
     requires { k < length drawn.now }
     ensures { result ≡ is_some (mark_after drawn.now k) }

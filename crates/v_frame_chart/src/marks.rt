@@ -1,4 +1,4 @@
-//! What is drawn of a series: a mark for each column, where it has a value.
+//! The marks of a series: one for each column that has a finite value.
 ghost use Rattle.std.specs.Prelude.{◌≡◌, ◌<◌, IfOk, option_map};
 ghost use Rattle.v_frame_chart.specs.Marks.{mark_of as the_mark, marks_of, middle_of};
 
@@ -7,7 +7,7 @@ use crate::columns::{Summary, start_of};
 use std::alloc::{AllocError, Global};
 use std::num::nearest_usize_to_f64;
 
-/// The place of a column from the left, and those of its values from the top.
+/// The distance of a column from the left, and the distances of its values from the top, in pixels.
 #[derive(Clone, Copy)]
 pub(crate) struct Mark {
     pub x: f64,
@@ -16,7 +16,7 @@ pub(crate) struct Mark {
     pub most: f64,
 }
 
-/// Returns the marks of the columns of so many values.
+/// Returns the marks of the columns of a series with `values` values.
 pub(crate) fn marks(
     alloc: Global,
     summaries: &[Option<Summary>],
@@ -36,7 +36,7 @@ pub(crate) fn marks(
 }
 
 /// Returns the frame in the middle of column `k`.
-fn middle(values: usize, columns: usize, k: usize) -> f64
+pub(crate) fn middle(values: usize, columns: usize, k: usize) -> f64
     requires { k < columns }
     ensures { result ≡ middle_of values columns k }
 {
@@ -47,7 +47,7 @@ fn middle(values: usize, columns: usize, k: usize) -> f64
     (nearest_usize_to_f64(start) + (nearest_usize_to_f64(end) - 1.0)) / 2.0
 }
 
-/// Returns the mark of a column whose middle is at a frame, where the column has a value.
+/// Returns the mark of a column whose middle is at `frame`, or `None` if the column has no finite value.
 fn marked(summary: Option<Summary>, frame: f64, across: Axis, down: Axis) -> Option<Mark>
     ensures { result ≡ option_map (the_mark across down frame) summary }
 {

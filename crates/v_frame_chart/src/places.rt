@@ -1,4 +1,4 @@
-//! Places in the picture, as they are written.
+//! Places in the picture, and their texts.
 ghost use Rattle.std.specs.Prelude.{◌≡◌, Some};
 ghost use Rattle.v_frame_chart.specs.Places.{tenths_of, tenths_text};
 

@@ -1,4 +1,4 @@
-//! Room on the axis of numbers for each finite value.
+//! An axis of numbers that contains each finite value.
 ghost use Rattle.std.specs.Prelude.{◌≡◌, false, if◌then◌else◌, true};
 ghost use Rattle.std.specs.List.{fold};
 ghost use Rattle.std.specs.Float.{float_is_finite};
@@ -12,8 +12,8 @@ use crate::drawing::Series;
 use crate::fitting::scale_between;
 use crate::scale::{Digit, Power, Scale};
 
-/// Returns a scale on which all finite values have room: from 0 to 1 where there are none, and an endless one where they
-/// go past what floats can tell apart.
+/// Returns a scale that contains all finite values. It is from 0 to 1 if there are none, and endless if floats cannot represent a scale
+/// of these values.
 pub(crate) fn scale_of(series: &[Series<'_>]) -> Scale
     ensures { HasRoom result series.now }
 {
@@ -42,7 +42,7 @@ fn extent(series: &[Series<'_>]) -> (f64, f64)
     (low, high)
 }
 
-/// Returns the least and the greatest of two numbers and finite values.
+/// Returns the least of `low` and the finite values, and the greatest of `high` and the finite values.
 fn extended(low: f64, high: f64, values: &[f64]) -> (f64, f64)
     ensures least { result.0 ≡ fold lesser low (finite values.now) }
     ensures most { result.1 ≡ fold greater high (finite values.now) }
@@ -54,7 +54,7 @@ fn extended(low: f64, high: f64, values: &[f64]) -> (f64, f64)
     (least, most)
 }
 
-/// Returns two numbers with a third between them, where that is finite. It mostly is between them as they are.
+/// Returns `least` and `most`, extended to `value` if it is finite. Most values are between them already.
 fn widened(least: f64, most: f64, value: f64) -> (f64, f64)
     ensures least { result.0 ≡ (if float_is_finite value then lesser least value else least) }
     ensures most { result.1 ≡ (if float_is_finite value then greater most value else most) }
@@ -69,7 +69,7 @@ fn widened(least: f64, most: f64, value: f64) -> (f64, f64)
     }
 }
 
-/// Returns the lesser of two numbers, or the first where the second is not finite.
+/// Returns the lesser of two numbers, or the first if the second is not finite.
 #[tactic(auto, using(crate::proofs::Extents::not_above))]
 fn lesser_if_finite(least: f64, value: f64) -> f64
     ensures { result ≡ (if float_is_finite value then lesser least value else least) }
@@ -77,7 +77,7 @@ fn lesser_if_finite(least: f64, value: f64) -> f64
     lesser_of(least, if value.is_finite() { value } else { infinity() })
 }
 
-/// Returns the greater of two numbers, or the first where the second is not finite.
+/// Returns the greater of two numbers, or the first if the second is not finite.
 #[tactic(auto, using(crate::proofs::Extents::not_below))]
 fn greater_if_finite(most: f64, value: f64) -> f64
     ensures { result ≡ (if float_is_finite value then greater most value else most) }
@@ -100,7 +100,7 @@ fn minus_infinity() -> f64
     f64::NEG_INFINITY
 }
 
-/// Returns whether two numbers lie between the ends of a scale, which rises.
+/// Returns whether the ends of a scale rise, and two numbers lie between them.
 #[tactic(auto, unfolding(crate::specs::Room::is_between))]
 fn is_between(scale: &Scale, low: f64, high: f64) -> bool
     ensures { result ≡ the_between scale.now low high }

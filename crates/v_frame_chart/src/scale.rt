@@ -1,4 +1,4 @@
-//! The axis of numbers, by whole numbers.
+//! The axis of numbers, described by whole numbers.
 ghost use Rattle.std.specs.Prelude.{◌≤◌, ◌≤ℤ◌, ◌^◌, negsuc, pos};
 
 /// The leading digit of a step.
@@ -9,14 +9,14 @@ pub(crate) enum Digit {
     Five,
 }
 
-/// A power of ten: ten multiplied by itself, or one over it.
+/// A power of ten, or its reciprocal.
 #[derive(Clone, Copy)]
 pub(crate) enum Power {
     Times(u32),
     Over(u32),
 }
 
-/// The marks of an axis: so many steps of a digit times a power of ten, from a whole multiple of the power on.
+/// The marks of an axis: `count` steps of `digit` times `power`, from `low` times `power` on.
 #[derive(Clone, Copy)]
 pub(crate) struct Scale {
     pub low: i64,

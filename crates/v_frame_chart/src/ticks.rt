@@ -1,4 +1,4 @@
-//! What the marks of the axis of numbers stand for.
+//! The values of the marks of the axis of numbers.
 ghost use Rattle.std.specs.Prelude.{◌≡◌, ◌≤◌, ◌≤ℤ◌, ◌^◌, negsuc, pos};
 ghost use Rattle.v_frame_chart.specs.Scales.{digit_size, down_of, number_at, ten_power, value_at, value_of as the_value};
 
@@ -7,7 +7,7 @@ use crate::scale::{Digit, Power, Scale};
 use std::num::nearest_i64_to_f64;
 
 impl Digit {
-    /// Returns so many times the digit.
+    /// Returns the digit multiplied by `count`.
     pub(crate) fn times(self, count: i64) -> i64
         requires low { negsuc (2 ^ 52) ≤ℤ count }
         requires high { count ≤ℤ pos (2 ^ 52) }
@@ -44,7 +44,7 @@ impl Scale {
         self.low + (u64::from(k) * u64::from(self.digit.size())) as i64
     }
 
-    /// Returns what a mark stands for.
+    /// Returns the value of a mark.
     pub(crate) fn value(&self, k: u32) -> f64
         requires { k ≤ self.now.count }
         ensures { result ≡ value_at self.now k }
@@ -60,8 +60,8 @@ impl Scale {
         Axis {
             low: self.value(0),
             high: self.value(self.count),
-            start: nearest_i64_to_f64(368),
-            end: nearest_i64_to_f64(64),
+            start: nearest_i64_to_f64(160),
+            end: nearest_i64_to_f64(50),
         }
     }
 }

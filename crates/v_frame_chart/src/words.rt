@@ -1,4 +1,4 @@
-//! What is written besides the lines: the head, the title, the names of the axes, and the legend.
+//! The texts of a chart: the head of the file, the title, the names of the axes, and the legend.
 ghost use Rattle.std.specs.Prelude.{◌≡◌, ◌++◌, OnOk, flat_map, string_bytes};
 ghost use Rattle.std.specs.List.{enumerate_from};
 ghost use Rattle.v_frame_chart.specs.Words.{closing, color_of as the_color, entry_of, frame_word, head_text, legend_of, name_end, opening, sample_of, text_end, text_head, text_of, title_of, unit_of};
@@ -26,9 +26,9 @@ fn push_opening(text: &mut String) -> Result<(), AllocError>
     ensures { OnOk result (string_bytes text.new ≡ string_bytes text.old ++ opening) }
 {
     text.push_str(
-        "<svg xmlns=\"http://www.w3.org/2000/svg\" width=\"960\" height=\"420\" \
-         viewBox=\"0 0 960 420\" font-family=\"sans-serif\" font-size=\"12\" \
-         fill=\"#333333\">\n<rect width=\"960\" height=\"420\" fill=\"#ffffff\"/>\n",
+        "<svg xmlns=\"http://www.w3.org/2000/svg\" width=\"960\" height=\"200\" \
+         viewBox=\"0 0 960 200\" font-family=\"sans-serif\" font-size=\"12\" \
+         fill=\"#333333\">\n<rect width=\"960\" height=\"200\" fill=\"#ffffff\"/>\n",
     )
 }
 
@@ -47,7 +47,7 @@ fn push_title(text: &mut String, title: &str) -> Result<(), AllocError>
 {
     push_text(
         text,
-        "x=\"76\" y=\"24\" font-size=\"16\" font-weight=\"bold\"",
+        "x=\"76\" y=\"16\" font-size=\"14\" font-weight=\"bold\"",
         title,
     )
 }
@@ -57,11 +57,7 @@ fn push_title(text: &mut String, title: &str) -> Result<(), AllocError>
 fn push_unit(text: &mut String, unit: &str) -> Result<(), AllocError>
     ensures { OnOk result (string_bytes text.new ≡ string_bytes text.old ++ unit_of unit.now) }
 {
-    push_text(
-        text,
-        "transform=\"translate(22 216) rotate(-90)\" text-anchor=\"middle\"",
-        unit,
-    )
+    push_text(text, "x=\"68\" y=\"33\" text-anchor=\"end\"", unit)
 }
 
 /// Appends the name of the axis of frames.
@@ -69,12 +65,12 @@ fn push_unit(text: &mut String, unit: &str) -> Result<(), AllocError>
 fn push_frame_word(text: &mut String) -> Result<(), AllocError>
     ensures { OnOk result (string_bytes text.new ≡ string_bytes text.old ++ frame_word) }
 {
-    push_text(text, "x=\"500\" y=\"408\" text-anchor=\"middle\"", "frame")
+    push_text(text, "x=\"500\" y=\"194\" text-anchor=\"middle\"", "frame")
 }
 
-/// Appends a text with these attributes.
+/// Appends a text of SVG with these attributes. The words are escaped, the attributes are not.
 #[tactic(auto, using(crate::proofs::Appended::joins), unfolding(crate::specs::Words::text_of))]
-fn push_text(text: &mut String, attributes: &str, words: &str) -> Result<(), AllocError>
+pub fn push_text(text: &mut String, attributes: &str, words: &str) -> Result<(), AllocError>
     ensures { OnOk result (string_bytes text.new
         ≡ string_bytes text.old ++ text_of attributes.now words.now) }
 {
@@ -84,7 +80,7 @@ fn push_text(text: &mut String, attributes: &str, words: &str) -> Result<(), All
     Ok(())
 }
 
-/// Appends what stands in front of the words of a text.
+/// Appends the start tag of a text.
 #[tactic(auto, unfolding(crate::specs::Words::text_head))]
 fn push_text_head(text: &mut String, attributes: &str) -> Result<(), AllocError>
     ensures { OnOk result (string_bytes text.new
@@ -93,7 +89,7 @@ fn push_text_head(text: &mut String, attributes: &str) -> Result<(), AllocError>
     write!(text, "<text {attributes}>")
 }
 
-/// Appends what stands behind the words of a text.
+/// Appends the end tag of a text.
 #[tactic(auto, unfolding(crate::specs::Words::text_end))]
 pub(crate) fn push_text_end(text: &mut String) -> Result<(), AllocError>
     ensures { OnOk result (string_bytes text.new ≡ string_bytes text.old ++ text_end) }
@@ -106,7 +102,7 @@ pub(crate) fn push_text_end(text: &mut String) -> Result<(), AllocError>
 pub(crate) fn push_legend(text: &mut String, series: &[Series<'_>]) -> Result<(), AllocError>
     ensures { OnOk result (string_bytes text.new ≡ string_bytes text.old ++ legend_of series.now) }
 {
-    push_text_head(text, "x=\"56\" y=\"50\"")?;
+    push_text_head(text, "x=\"56\" y=\"33\"")?;
     push_entries(text, series)?;
     push_text_end(text)?;
     Ok(())
@@ -146,7 +142,7 @@ fn push_sample(text: &mut String, color: &str) -> Result<(), AllocError>
     )
 }
 
-/// Appends what stands behind a name.
+/// Appends the end tag of a name.
 #[tactic(auto, unfolding(crate::specs::Words::name_end))]
 fn push_name_end(text: &mut String) -> Result<(), AllocError>
     ensures { OnOk result (string_bytes text.new ≡ string_bytes text.old ++ name_end) }

@@ -1,4 +1,4 @@
--- Where each format stands in the table, so that no two are written alike.
+-- The place of each format in the table: no two have one short name.
 use Rattle.std.proofs.Common.{ℕ, ◌≡◌, ◌≢◌, ◌⊎◌, ◌+◌, ◌<◌, ◌≤◌, Bool, true, List, get_or, refl, sym, ◌∙◌, ap, arith, lit<}
 use Rattle.std.proofs.Common.{rules, subst}
 use Rattle.std.specs.Prelude.{None, Some}
@@ -9,7 +9,7 @@ use Rattle.std.proofs.lemmas.List.Sums.{AllPass-from_list_all}
 use Rattle.v_frame_y4m.specs.declared.color.Color.TheVariants as color
 use Rattle.v_frame_y4m.specs.declared.color.Depth.TheVariants as depth
 use Rattle.v_frame_semi_planar.specs.declared.format.SemiPlanarFormat.TheVariants as layout
-use Rattle.v_frame_formats.specs.Formats.{ffmpeg_name, short_name, IsFormat, IsNamed}
+use Rattle.v_frame_formats.specs.Formats.{short_name, IsFormat, IsNamed, IsNameOf}
 use Rattle.v_frame_formats.specs.declared.format.VideoFormat.{VideoFormat}
 use Rattle.v_frame_formats.specs.declared.format.VideoFormat.TheVariants.{Planar, SemiPlanar}
 use Rattle.v_frame_formats.specs.declared.format.TheConstants.{FORMATS}
@@ -73,11 +73,10 @@ pub named_at : (i : ℕ) (w : VideoFormat) → i < 35 → IsNamed (get_or FORMAT
 named_at i w within = All-from_recursion IsNamed FORMATS listed i w within
 
 pub format_further : (text : List ℕ) (i : ℕ) (w f : VideoFormat)
-    → ¬ ((text ≡ short_name (get_or FORMATS i w)) ⊎ (text ≡ ffmpeg_name (get_or FORMATS i w)))
+    → ¬ (IsNameOf (get_or FORMATS i w) text)
     → IsFormat f text → i ≤ format_place f → i + 1 ≤ format_place f
 format_further text i w f miss is low =
     let here : i ≡ format_place f → get_or FORMATS i w ≡ f = λ e.
     ap (λ (k : ℕ). get_or FORMATS k w) e ∙ (format_stands f w is.0).0 in
-    let other : i ≢ format_place f = λ e. miss (subst (λ (g : VideoFormat).
-    (text ≡ short_name g) ⊎ (text ≡ ffmpeg_name g)) (sym (here e)) is.1) in
+    let other : i ≢ format_place f = λ e. miss (subst (λ (g : VideoFormat). IsNameOf g text) (sym (here e)) is.1) in
     omega (arith, other, low)

@@ -1,5 +1,6 @@
 -- The formats of raw video and their names.
-use Rattle.std.specs.Prelude.{ℕ, ◌≡◌, ◌++◌, ◌⊎◌, ⊤, List, [], codes, Some}
+use Rattle.std.specs.Prelude.{ℕ, ◌≡◌, ◌++◌, ◌⊎◌, ⊤, IsTrue, List, [], codes, if◌then◌else◌, None, Option, Some}
+use Rattle.std.specs.Str.{str_eq_ignore_ascii_case}
 use Rattle.v_frame.specs.Prelude.{ChromaSubsampling}
 use Rattle.v_frame_y4m.specs.Color.{color_text, depth_of, depth_text, stated, subsampling_of}
 use Rattle.v_frame_y4m.specs.declared.color.Color.{Color}
@@ -80,10 +81,49 @@ abbrev pub ffmpeg_name : VideoFormat → List ℕ
 ffmpeg_name (Planar color) = ffmpeg_color color
 ffmpeg_name (SemiPlanar layout) = ffmpeg_layout layout
 
--- every format has names, but for the color of a header that says none
+-- the name that people type, in lower case: the one of ffmpeg without its `le`, and i420 and the like;
+-- for other formats, the short name
+abbrev pub common_color : Color → List ℕ
+common_color Unstated = []
+common_color Yuv420 = codes "420"
+common_color Yuv420Jpeg = codes "i420"
+common_color Yuv420Mpeg2 = codes "420mpeg2"
+common_color Yuv420Paldv = codes "420paldv"
+common_color Yuv411 = codes "411"
+common_color Yuv422 = codes "i422"
+common_color Yuv444 = codes "i444"
+common_color Mono = codes "gray8"
+common_color (Yuv420HighDepth depth) = codes "yuv420p" ++ depth_text depth
+common_color (Yuv422HighDepth depth) = codes "yuv422p" ++ depth_text depth
+common_color (Yuv444HighDepth depth) = codes "yuv444p" ++ depth_text depth
+common_color (MonoHighDepth depth) = codes "gray" ++ depth_text depth
+
+abbrev pub common_name : VideoFormat → List ℕ
+common_name (Planar color) = common_color color
+common_name (SemiPlanar layout) = layout_text layout
+
+-- every format has names, but for the color of a header that states none
 abbrev pub IsNamed : VideoFormat → Type 0
 IsNamed (Planar color) = stated color ≡ Some color
 IsNamed (SemiPlanar layout) = ⊤
 
+-- the two names differ in nothing but the case of their letters
+abbrev pub IsSameName : List ℕ → List ℕ → Type 0
+IsSameName one other = IsTrue (str_eq_ignore_ascii_case one other)
+
+-- the text is one of the three names
+abbrev pub IsNameOf : VideoFormat → List ℕ → Type 0
+IsNameOf format text =
+    IsSameName text (short_name format)
+    ⊎ (IsSameName text (ffmpeg_name format) ⊎ IsSameName text (common_name format))
+
 abbrev pub IsFormat : VideoFormat → List ℕ → Type 0
-IsFormat format text = IsNamed format × ((text ≡ short_name format) ⊎ (text ≡ ffmpeg_name format))
+IsFormat format text = IsNamed format × IsNameOf format text
+
+-- the format of samples of full range, by the names that ffmpeg has for these
+abbrev pub full_range_format : List ℕ → Option VideoFormat
+full_range_format text =
+    if str_eq_ignore_ascii_case text (codes "yuvj420p") then Some (Planar Yuv420Jpeg)
+    else (if str_eq_ignore_ascii_case text (codes "yuvj422p") then Some (Planar Yuv422)
+    else (if str_eq_ignore_ascii_case text (codes "yuvj444p") then Some (Planar Yuv444)
+    else None))

@@ -1,10 +1,10 @@
-//! The planes of a frame, by what they hold.
+//! The planes of a frame: luma and chroma.
 ghost use Rattle.std.specs.Prelude.{◌≡◌};
 ghost use Rattle.v_frame_formats.specs.Components.{index_of, letter_of};
 
 use std::fmt;
 
-/// What a plane of a frame holds.
+/// A plane of a frame.
 #[derive(Debug, Clone, Copy, PartialEq, Eq)]
 pub enum Component {
     /// Luma.
@@ -16,7 +16,7 @@ pub enum Component {
 }
 
 impl Component {
-    /// Returns the index of its plane in a frame: 0 for Y, 1 for U and 2 for V.
+    /// Returns the index of the plane in a frame: 0 for Y, 1 for U and 2 for V.
     pub fn index(self) -> usize
         ensures { result ≡ index_of self }
     {
@@ -27,7 +27,7 @@ impl Component {
         }
     }
 
-    /// Returns its letter, a capital one.
+    /// Returns the letter of the plane: `Y`, `U` or `V`.
     pub fn letter(self) -> &'static str
         ensures { result.now ≡ letter_of self }
     {

@@ -1,19 +1,19 @@
-//! The formats of raw video, by the names that ffmpeg has for them and by short ones.
+//! The formats of raw video and their names.
 ghost use Rattle.std.specs.Prelude.{◌≡◌, ◌↔◌, ◌⊎◌, IfNone, IfSome, IsTrue};
 ghost use Rattle.v_frame_y4m.specs.Color.{depth_of, subsampling_of};
-ghost use Rattle.v_frame_formats.specs.Formats.{color_of_layout, ffmpeg_color, ffmpeg_layout, ffmpeg_name as name_in_ffmpeg, format_color, format_depth, format_subsampling, layout_text, short_name as name_in_short, IsFormat};
+ghost use Rattle.v_frame_formats.specs.Formats.{color_of_layout, common_color, common_name as name_in_common, ffmpeg_color, ffmpeg_layout, ffmpeg_name as name_in_ffmpeg, format_color, format_depth, format_subsampling, full_range_format, layout_text, short_name as name_in_short, IsFormat, IsNameOf, IsSameName};
 ghost use Rattle.v_frame_formats.specs.declared.format.VideoFormat.{VideoFormat as TheFormat};
 
 use v_frame::chroma::ChromaSubsampling;
 use v_frame_semi_planar::SemiPlanarFormat;
 use v_frame_y4m::{Color, Depth};
 
-/// A chroma subsampling, a bit depth and a layout of frames.
+/// A format of raw video: the chroma subsampling, the bit depth and the order of the samples in memory.
 #[derive(Debug, Clone, Copy, PartialEq, Eq)]
 pub enum VideoFormat {
-    /// The planes one after the other. Never [`Color::Unstated`].
+    /// The planes follow each other. The color is never [`Color::Unstated`].
     Planar(Color),
-    /// Luma, and then the pixels of both chroma planes by turns.
+    /// Luma comes first, then the samples of both chroma planes, interleaved.
     SemiPlanar(SemiPlanarFormat),
 }
 
@@ -67,7 +67,7 @@ impl VideoFormat {
         }
     }
 
-    /// Returns the bits of a sample.
+    /// Returns the number of bits of a sample.
     pub fn bit_depth(self) -> u8
         ensures { result ≡ format_depth self }
     {
@@ -77,7 +77,7 @@ impl VideoFormat {
         }
     }
 
-    /// Returns the color that the header of a stream has for frames of this format.
+    /// Returns the color that the header of a YUV4MPEG2 stream states for frames of this format.
     pub fn color(self) -> Color
         ensures value { result ≡ format_color self }
         ensures subsampling { subsampling_of result ≡ format_subsampling self }
@@ -89,7 +89,7 @@ impl VideoFormat {
         }
     }
 
-    /// Returns the short name: what YUV4MPEG2 has for planes one after the other, and `nv12`, `p010` and the like.
+    /// Returns the short name: for planar formats the one that YUV4MPEG2 uses, as `420p10`; else `nv12`, `p010` and the like.
     pub fn short_name(self) -> &'static str
         ensures { result.now ≡ name_in_short self }
     {
@@ -99,7 +99,7 @@ impl VideoFormat {
         }
     }
 
-    /// Returns the name of ffmpeg's pixel format, or the short name where ffmpeg has none for this format alone.
+    /// Returns the name of ffmpeg's pixel format, as `yuv420p10le`; or the short name if ffmpeg has no name for this format alone.
     pub fn ffmpeg_name(self) -> &'static str
         ensures { result.now ≡ name_in_ffmpeg self }
     {
@@ -109,7 +109,28 @@ impl VideoFormat {
         }
     }
 
-    /// Returns the format of a name. `None` where no format has it.
+    /// Returns the name that people type: `I420`, `I422`, `I444`, `gray8`, or the one that ffmpeg has without its `le`. For other
+    /// formats, returns the short name. In lower case.
+    pub fn common_name(self) -> &'static str
+        ensures { result.now ≡ name_in_common self }
+    {
+        match self {
+            VideoFormat::Planar(color) => common_color_name(color),
+            VideoFormat::SemiPlanar(layout) => layout_name(layout),
+        }
+    }
+
+    /// Returns the format that has this name: the short one, the one of ffmpeg or the common one, in upper or lower case. Returns
+    /// `None` if no format has it.
+    ///
+    /// ```
+    /// use v_frame_proved::formats::VideoFormat;
+    ///
+    /// let format = VideoFormat::named("yuv420p10").expect("a format");
+    /// assert_eq!(format.ffmpeg_name(), "yuv420p10le");
+    /// assert_eq!(VideoFormat::named("I420"), VideoFormat::named("yuv420p"));
+    /// assert_eq!(VideoFormat::named("yuv421p"), None);
+    /// ```
     pub fn named(name: &str) -> Option<Self>
         ensures some { IfSome result (λ format. IsFormat format name.now) }
         ensures none { IfNone result ((format : TheFormat) → ¬ (IsFormat format name.now)) }
@@ -122,15 +143,41 @@ impl VideoFormat {
         None
     }
 
-    /// Returns whether a name is one of the two.
-    fn is_called(self, name: &str) -> bool
-        ensures { IsTrue result ↔ ((name.now ≡ name_in_short self) ⊎ (name.now ≡ name_in_ffmpeg self)) }
+    /// Returns the format whose samples have full range if they have this name: one of ffmpeg's `yuvj420p`, `yuvj422p` and
+    /// `yuvj444p`, in upper or lower case. Returns `None` for other names.
+    pub fn full_range_named(name: &str) -> Option<Self>
+        ensures { result ≡ full_range_format name.now }
     {
-        name == self.short_name() || name == self.ffmpeg_name()
+        if name.eq_ignore_ascii_case("yuvj420p") {
+            return Some(VideoFormat::Planar(Color::Yuv420Jpeg));
+        }
+        if name.eq_ignore_ascii_case("yuvj422p") {
+            return Some(VideoFormat::Planar(Color::Yuv422));
+        }
+        if name.eq_ignore_ascii_case("yuvj444p") {
+            return Some(VideoFormat::Planar(Color::Yuv444));
+        }
+        None
+    }
+
+    /// Returns whether this is one of the three names of the format.
+    fn is_called(self, name: &str) -> bool
+        ensures { IsTrue result ↔ IsNameOf self name.now }
+    {
+        is_same_name(name, self.short_name())
+            || is_same_name(name, self.ffmpeg_name())
+            || is_same_name(name, self.common_name())
     }
 }
 
-/// Returns the color whose subsampling and bit depth a layout has.
+/// Returns whether two names differ in nothing but the case of their letters.
+fn is_same_name(name: &str, other: &str) -> bool
+    ensures { IsTrue result ↔ IsSameName name.now other.now }
+{
+    name.eq_ignore_ascii_case(other)
+}
+
+/// Returns the color that has the chroma subsampling and the bit depth of a layout.
 fn layout_color(layout: SemiPlanarFormat) -> Color
     ensures { result ≡ color_of_layout layout }
 {
@@ -171,7 +218,7 @@ fn layout_name_in_ffmpeg(layout: SemiPlanarFormat) -> &'static str
     }
 }
 
-/// Returns the name that ffmpeg has for planes of a color, or the short one.
+/// Returns ffmpeg's name for planes of a color, or the short name if ffmpeg has none.
 fn color_name_in_ffmpeg(color: Color) -> &'static str
     ensures { result.now ≡ ffmpeg_color color }
 {
@@ -210,5 +257,47 @@ fn color_name_in_ffmpeg(color: Color) -> &'static str
             Depth::Sixteen => "gray16le",
         },
         Color::Unstated | Color::Yuv420 | Color::Yuv420Mpeg2 | Color::Yuv420Paldv => color.text(),
+    }
+}
+
+/// Returns the name that people type for planes of a color, in lower case.
+fn common_color_name(color: Color) -> &'static str
+    ensures { result.now ≡ common_color color }
+{
+    match color {
+        Color::Yuv420Jpeg => "i420",
+        Color::Yuv422 => "i422",
+        Color::Yuv444 => "i444",
+        Color::Mono => "gray8",
+        Color::Yuv420HighDepth(depth) => match depth {
+            Depth::Nine => "yuv420p9",
+            Depth::Ten => "yuv420p10",
+            Depth::Twelve => "yuv420p12",
+            Depth::Fourteen => "yuv420p14",
+            Depth::Sixteen => "yuv420p16",
+        },
+        Color::Yuv422HighDepth(depth) => match depth {
+            Depth::Nine => "yuv422p9",
+            Depth::Ten => "yuv422p10",
+            Depth::Twelve => "yuv422p12",
+            Depth::Fourteen => "yuv422p14",
+            Depth::Sixteen => "yuv422p16",
+        },
+        Color::Yuv444HighDepth(depth) => match depth {
+            Depth::Nine => "yuv444p9",
+            Depth::Ten => "yuv444p10",
+            Depth::Twelve => "yuv444p12",
+            Depth::Fourteen => "yuv444p14",
+            Depth::Sixteen => "yuv444p16",
+        },
+        Color::MonoHighDepth(depth) => match depth {
+            Depth::Nine => "gray9",
+            Depth::Ten => "gray10",
+            Depth::Twelve => "gray12",
+            Depth::Fourteen => "gray14",
+            Depth::Sixteen => "gray16",
+        },
+        Color::Unstated | Color::Yuv420 | Color::Yuv420Mpeg2 | Color::Yuv420Paldv | Color::Yuv411 =>
+            color.text(),
     }
 }

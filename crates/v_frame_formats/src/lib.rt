@@ -1,7 +1,7 @@
-//! The formats of raw video: a chroma subsampling, a bit depth and the order of the samples, by the names that ffmpeg and
-//! YUV4MPEG2 have for them. The planes of a frame by what they hold, numbers and places in them, and parts of a picture.
+//! Formats of raw video, with the names that ffmpeg, YUV4MPEG2 and people use: a chroma subsampling, a bit depth and the order of the
+//! samples. Also the names of planes, numbers for the planes of a frame, pixels that differ, and rectangles.
 //!
-//! Our own. `Rattle.v_frame_formats.specs.Prelude` has the words for clauses.
+//! This crate has no counterpart in `v_frame` 0.7.0. `Rattle.v_frame_formats.specs.Prelude` exports the definitions for contracts.
 #![tactic(auto)]
 
 mod component;

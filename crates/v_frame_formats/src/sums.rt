@@ -1,20 +1,20 @@
-//! Numbers that belong to the planes of a frame.
+//! Whole numbers for the planes of a frame.
 ghost use Rattle.std.specs.Prelude.{◌≡◌, ◌+◌, ◌*◌, option_map, unwrap_or};
 ghost use Rattle.v_frame_formats.specs.Sums.{added, added_chroma, at_most, multiplied};
 
 /// A whole number for each plane of a frame.
 #[derive(Debug, Clone, Copy, PartialEq, Eq)]
 pub struct PlaneSums {
-    /// That of luma.
+    /// The number of luma.
     pub y: u128,
-    /// That of the first chroma plane, where there is one.
+    /// The number of the first chroma plane, if there is one.
     pub u: Option<u128>,
-    /// That of the second chroma plane, where there is one.
+    /// The number of the second chroma plane, if there is one.
     pub v: Option<u128>,
 }
 
 impl PlaneSums {
-    /// Returns the sums, plane by plane: of chroma where both have it. Each saturates at `u128::MAX`.
+    /// Returns the sum of each plane. A chroma plane has one if both have the plane. Sums saturate at `u128::MAX`.
     pub fn plus(&self, more: &PlaneSums) -> Self
         ensures { result ≡ added self.now more.now }
     {
@@ -25,7 +25,7 @@ impl PlaneSums {
         }
     }
 
-    /// Returns the numbers, each so many times. Each saturates at `u128::MAX`.
+    /// Returns each number multiplied by a factor. Products saturate at `u128::MAX`.
     pub fn times(&self, count: u64) -> Self
         ensures { result ≡ multiplied self.now count }
     {
@@ -48,7 +48,7 @@ impl PlaneSums {
     }
 }
 
-/// Returns the sum of two numbers of chroma planes, where both are there.
+/// Returns the sum of the numbers of two chroma planes, or `None` if one is missing.
 fn plus_chroma(first: Option<u128>, second: Option<u128>) -> Option<u128>
     ensures { result ≡ added_chroma first second }
 {
@@ -58,7 +58,7 @@ fn plus_chroma(first: Option<u128>, second: Option<u128>) -> Option<u128>
     }
 }
 
-/// Returns the number of a chroma plane so many times, where it is there.
+/// Returns the number of a chroma plane multiplied by a factor, or `None` if it is missing.
 fn times_chroma(number: Option<u128>, count: u128) -> Option<u128>
     ensures { result ≡ option_map (λ number. at_most (number * count)) number }
 {

@@ -1,6 +1,6 @@
-//! The program: its words are read and done, and what went wrong is reported.
-ghost use Rattle.std.specs.Prelude.{◌≡◌};
-ghost use Rattle.yuv_system.specs.declared.status.Status.TheVariants.{Failed};
+//! The program: it reads the words of a call, runs the command and reports errors.
+ghost use Rattle.std.specs.Prelude.{◌≡◌, ◌⊎◌};
+ghost use Rattle.yuv_system.specs.declared.status.Status.TheVariants.{Closed, Failed};
 ghost use Rattle.yuv_words.specs.Calls.{AsksHelp, IsWrittenAs};
 ghost use Rattle.yuv_words.specs.Words.{texts_of};
 ghost use Rattle.yuv_words.specs.declared.command.Command.{Command as TheCommand};
@@ -14,15 +14,18 @@ use yuv_copies::{do_copy, do_show};
 use yuv_facts::{do_info, do_stats, do_sum};
 use yuv_files::{SystemFile, shown_name, write_message};
 use yuv_system::{Fault, ProgressLine, Status, System, counts_shown, write_text};
-use yuv_words::{Command, CommandName, UsageError, help_topic, read_command, usage_text};
+use yuv_words::{Command, CommandName, Topic, UsageError, help_topic, read_command, usage_text};
 
-/// What `yuv --version` prints.
+/// The text that `yuv version` prints.
 pub const VERSION: &str = "yuv 0.4.0\n";
 
-/// What a message calls standard output.
+/// The name of standard output in a message.
 const STANDARD_OUTPUT: &str = "standard output";
 
-/// What a program has of its system.
+/// Why a command does not write video or a PNG picture.
+const TERMINAL: &str = "it is a terminal; redirect it, or name a file";
+
+/// The standard streams of a program.
 #[derive(Drop)]
 pub struct Streams<I, O, E> {
     /// Standard input.
@@ -31,13 +34,14 @@ pub struct Streams<I, O, E> {
     pub output: O,
     /// Standard error.
     pub error: E,
-    /// Whether standard error is a terminal, where `--progress` shows something.
+    /// Whether standard error is a terminal, so that `--progress` shows a count.
     pub is_terminal: bool,
-    /// Whether standard output is one, where lines of frames and counts of them would stand among each other.
+    /// Whether standard output is a terminal. Lines of frames would then mix with the count of frames, and video or a PNG picture is
+    /// not written.
     pub output_is_terminal: bool,
 }
 
-/// Does what the words of a call, without the program's own name, ask for.
+/// Runs the command that the words of a call, without the name of the program, ask for.
 pub fn run<H, I, O, E>(rt: &H, words: &[&str], streams: Streams<I, O, E>) -> Status
 where
     H: Files + AllocGlobal + Clock,
@@ -54,7 +58,7 @@ where
     }
 }
 
-/// Does what these words ask for, the command first.
+/// Runs the command that these words ask for, the first of which is its name.
 fn run_words<H, I, O, E>(rt: &H, words: &[&str], streams: Streams<I, O, E>) -> Status
 where
     H: Files + AllocGlobal + Clock,
@@ -76,6 +80,10 @@ where
         Ok(command) => command,
         Err(refusal) => return refuse(&refusal, &mut error),
     };
+    if output_is_terminal && writes_data(&command) {
+        write_message(&mut error, Some(STANDARD_OUTPUT), &TERMINAL);
+        return Status::Failed;
+    }
     let shown = counts_shown(&command, is_terminal, output_is_terminal);
     let progress = ProgressLine::new(rt, error, shown);
     let mut system = System {
@@ -92,23 +100,38 @@ where
     }
 }
 
-/// Reports what is wrong with the words of a call, and where help is.
+/// Returns whether a command writes video or a PNG picture to standard output.
+fn writes_data(command: &Command<'_>) -> bool {
+    match command {
+        Command::Call(call) => match call.name {
+            CommandName::Copy | CommandName::Show => call.second == "-",
+            CommandName::Diff => call.third == "-",
+            _ => false,
+        },
+        _ => false,
+    }
+}
+
+/// Reports what is wrong with the words of a call, and how to get help.
 pub fn refuse<E: io::Write>(refusal: &UsageError<'_>, out: &mut E) -> Status
     ensures { result ≡ Failed }
 {
     write_message(out, None, refusal);
-    let _ = out.write_all(b"yuv help says how it is called\n");
+    let _ = out.write_all(b"Run 'yuv help' for usage.\n");
     Status::Failed
 }
 
-/// Reports what went wrong, and where.
+/// Reports what went wrong, and where. If the reader of the output closed it, nothing is reported, as by other programs.
 fn give_up<H: Clock, I, O, E: io::Write>(
     system: &mut System<'_, H, I, O, E>,
     command: &Command<'_>,
     fault: Fault,
 ) -> Status
-    ensures { result ≡ Failed }
+    ensures { (result ≡ Failed) ⊎ (result ≡ Closed) }
 {
+    if fault.is_closed_pipe() {
+        return Status::Closed;
+    }
     let name = match (fault.place(), &fault) {
         (Some(_), Fault::Report(_)) => Some(STANDARD_OUTPUT),
         (Some(place), _) => Some(name_of(command, place)),
@@ -119,7 +142,7 @@ fn give_up<H: Clock, I, O, E: io::Write>(
     Status::Failed
 }
 
-/// Does a command.
+/// Runs a command.
 fn do_command<H, I, O, E>(
     system: &mut System<'_, H, I, O, E>,
     command: &Command<'_>,
@@ -147,10 +170,10 @@ where
     }
 }
 
-/// Writes how the program is called, or one of its commands, and what each option of that does.
-fn print_usage<O: io::Write>(output: &mut O, topic: Option<CommandName>) -> Result<Status, Fault> {
+/// Prints the help of a topic; of a command, with that of each of its options.
+fn print_usage<O: io::Write>(output: &mut O, topic: Topic) -> Result<Status, Fault> {
     write_text(output, usage_text(topic))?;
-    if let Some(command) = topic {
+    if let Topic::Command(command) = topic {
         for option in command.options() {
             write_text(output, option.help())?;
         }

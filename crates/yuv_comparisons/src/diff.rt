@@ -8,6 +8,8 @@ ghost use Rattle.v_frame_measures.specs.Prelude.{HaveOneSize};
 ghost use Rattle.v_frame_streams.specs.Prelude.{bytes_left, stream_of, HaveOneFormat};
 ghost use Rattle.yuv_words.specs.declared.command.CommandName.TheVariants.{Diff};
 
+use crate::compare::warn_of_headers;
+use crate::so_far::Above;
 use std::alloc::{AllocError, Global};
 use std::io;
 use std::rt::Files;
@@ -16,11 +18,12 @@ use v_frame::frame::Frame;
 use v_frame::pixel::Pixel;
 use v_frame_measures::GreatestDifference;
 use v_frame_streams::{Picture, Place, Source, check_formats};
-use yuv_files::SystemFile;
+use yuv_files::{FileKind, SystemFile};
 use yuv_pictures::{Found, PictureError, PlaneDifference, differences, write_difference_picture};
 use yuv_system::{
-    Fault, Output, Status, System, begin, frames_before, is_standard_output, most_pixels,
-    no_memory, open_file, read_behind, write_made, write_text,
+    Fault, Output, Status, System, Target, begin, frames_before, is_standard_output, most_pixels,
+    no_memory, open_file, read_behind, test_target, write_above, write_formats, write_made,
+    write_text,
 };
 use yuv_words::{Call, Options};
 
@@ -47,18 +50,34 @@ where
     let (first, second, to) = (call.first, call.second, call.third);
     let options = &call.options;
     let rt = system.rt;
+    let target = Target {
+        name: to,
+        written: FileKind::Png,
+        inputs: &[first, second],
+        is_forced: options.force,
+    };
+    test_target(rt, &target)?;
     let mut file = open_file(rt, first, Place::First, &mut system.input)?;
     let mut one = begin(system, first, &mut file, options.raw)?;
     let mut other_file = open_file(rt, second, Place::Second, &mut system.input)?;
     let mut other = begin(system, second, &mut other_file, options.raw_second)?;
-    let mut output = Output::open(
-        rt,
-        to,
-        &[first, second],
-        &mut system.output,
-        system.progress.out(),
-    )?;
-    let done = match write_difference(rt.alloc(), &mut one, &mut other, options, &mut output) {
+    let mut output = Output::open(rt, &target, &mut system.output, system.progress.out())?;
+    frames_before(options.frame)?;
+    write_formats(system.progress.out(), one.header(), other.header());
+    check_formats(&one, &other)?;
+    warn_of_headers(system.progress.out(), options, one.header(), other.header());
+    let mut above = Above::new();
+    let drawn = write_difference(
+        rt.alloc(),
+        &mut one,
+        &mut other,
+        options,
+        &mut output,
+        &mut above,
+    );
+    write_above(system.progress.out(), first, &one, above.first);
+    write_above(system.progress.out(), second, &other, above.second);
+    let done = match drawn {
         Ok(drawn) => {
             let (_written, found) = drawn;
             Ok(found)
@@ -86,6 +105,7 @@ fn write_difference<R: io::Read, S: io::Read, W: io::Write + Drop>(
     second: &mut Source<S>,
     options: &Options,
     out: W,
+    above: &mut Above,
 ) -> Result<(W, Found), Fault>
     ensures bytes { depth_of first.old.header.color ≡ 8 → IfOk result (λ drawn.
         DrawsFrames one_byte W.contents (W.contents out) options.now
@@ -101,9 +121,9 @@ fn write_difference<R: io::Read, S: io::Read, W: io::Write + Drop>(
     let before = frames_before(options.frame)?;
     check_formats(first, second)?;
     if first.header().color.bit_depth() == 8 {
-        draw_frames::<u8, _, _, _>(alloc, first, second, before, options, out)
+        draw_frames::<u8, _, _, _>(alloc, first, second, before, options, out, above)
     } else {
-        draw_frames::<u16, _, _, _>(alloc, first, second, before, options, out)
+        draw_frames::<u16, _, _, _>(alloc, first, second, before, options, out, above)
     }
 }
 
@@ -115,6 +135,7 @@ fn draw_frames<T: Pixel, R: io::Read, S: io::Read, W: io::Write + Drop>(
     before: u64,
     options: &Options,
     out: W,
+    above: &mut Above,
 ) -> Result<(W, Found), Fault>
     requires number { before + 1 ≡ unwrap_or options.now.frame 1 }
     requires formats { HaveOneFormat first.old.header second.old.header }
@@ -128,6 +149,8 @@ fn draw_frames<T: Pixel, R: io::Read, S: io::Read, W: io::Write + Drop>(
     let mut other = Picture::<T>::new(alloc, second, most)?;
     read_behind(first, &mut one, before, Place::First)?;
     read_behind(second, &mut other, before, Place::Second)?;
+    let number = before.saturating_add(1);
+    above.note((number, &one.frame), (number, &other.frame));
     let drawn = draw_difference(alloc, out, &one.frame, &other.frame, gain_of(options))?;
     Ok(drawn)
 }

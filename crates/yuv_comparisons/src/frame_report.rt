@@ -10,6 +10,7 @@ ghost use Rattle.yuv_reports.specs.Frames.{EndsWithFrame};
 ghost use Rattle.yuv_reports.specs.Texts.{EndsWith};
 
 use crate::measures::{Means, Scale};
+use crate::so_far::{Above, SoFar};
 use std::alloc::{AllocError, Global};
 use std::io;
 use v_frame::frame::Frame;
@@ -17,7 +18,7 @@ use v_frame::pixel::Pixel;
 use v_frame_measures::{FrameMeasure, frame_ssim, frames_have_one_size};
 use v_frame_streams::{Comparison, FrameObserver, Place, PlaneSums, StreamError};
 use yuv_reports::{FrameMeasures, Longer, Report};
-use yuv_system::{no_memory, write_text};
+use yuv_system::{ShownProblem, no_memory, write_text};
 
 /// Reports each two frames that are compared, and all of them at the end.
 #[derive(Drop)]
@@ -30,8 +31,12 @@ pub(crate) struct FrameReport<W> {
     alloc: Global,
     /// How many frames of the first stream stand before the first one that is compared.
     before: u64,
+    /// How many frames of the second stream precede the first one that is compared.
+    before_second: u64,
     frames: u64,
     is_begun: bool,
+    so_far: SoFar,
+    above: Above,
 }
 
 impl<W: io::Write> FrameReport<W> {
@@ -44,12 +49,14 @@ impl<W: io::Write> FrameReport<W> {
         scale: Scale,
         ssim: Option<Means>,
         before: u64,
+        before_second: u64,
     ) -> Self
         ensures out { result.out ≡ out }
         ensures report { result.report ≡ report }
         ensures scale { result.scale ≡ scale }
         ensures ssim { result.ssim ≡ ssim }
         ensures before { result.before ≡ before }
+        ensures before_second { result.before_second ≡ before_second }
         ensures frames { result.frames ≡ 0 }
     {
         FrameReport {
@@ -60,9 +67,19 @@ impl<W: io::Write> FrameReport<W> {
             ssim,
             alloc,
             before,
+            before_second,
             frames: 0,
             is_begun: false,
+            so_far: SoFar::new(),
+            above: Above::new(),
         }
+    }
+
+    /// Returns the first frame of each stream that has samples above its bit depth.
+    pub(crate) fn above(&self) -> Above
+        ensures { result ≡ self.now.above }
+    {
+        self.above
     }
 
     /// Returns the writer back.
@@ -119,6 +136,40 @@ impl<W: io::Write> FrameReport<W> {
         let measures = self.scale.measures(&found.errors, found.frames, ssim);
         let found = reported_comparison(found, measures, self.before);
         self.report.end(&mut self.text, &found)
+    }
+
+    /// Writes what was found before the frame at which a stream breaks off.
+    ///
+    /// # Errors
+    ///
+    /// The writer's, and that of refused memory.
+    pub(crate) fn end_broken(&mut self, error: &StreamError) -> Result<(), StreamError> {
+        let shown = ShownProblem { error };
+        let said = format!(in self.alloc; "{shown}");
+        let Ok(said) = said else {
+            return Err(no_memory());
+        };
+        let pushed = self.push_broken_end(said.as_str());
+        drop(said);
+        match pushed {
+            Ok(()) => self.write(),
+            Err(_) => Err(no_memory()),
+        }
+    }
+
+    /// Appends what was found before the frame at which a stream breaks off.
+    fn push_broken_end(&mut self, error: &str) -> Result<(), AllocError> {
+        self.begin()?;
+        let ssim = match &self.ssim {
+            Some(means) => means.values(),
+            None => None,
+        };
+        let found = self
+            .so_far
+            .comparison(self.frames, self.scale.pixels.times(0));
+        let measures = self.scale.measures(&found.errors, found.frames, ssim);
+        let found = reported_comparison(&found, measures, self.before);
+        self.report.end_broken(&mut self.text, &found, error)
     }
 
     /// Appends the next frame.
@@ -199,7 +250,12 @@ impl<T: Pixel, W: io::Write> FrameObserver<T> for FrameReport<W> {
         second: &Frame<T>,
         errors: &PlaneSums,
     ) -> Result<(), StreamError> {
+        self.so_far.add(self.frames, first, second, errors);
         self.frames = self.frames.saturating_add(1);
+        self.above.note(
+            (self.before.saturating_add(self.frames), first),
+            (self.before_second.saturating_add(self.frames), second),
+        );
         let ssim = self.similarities(first, second);
         let measures: FrameMeasures = self.scale.measures(errors, 1, ssim);
         match self.push_frame(&measures) {

@@ -3,7 +3,7 @@ ghost use Rattle.std.specs.Prelude.{◌≡◌, ◌+◌, ◌-◌, ◌^◌, min, u
 ghost use Rattle.yuv_system.specs.Options.{plot_of};
 ghost use Rattle.yuv_words.specs.declared.command.CommandName.TheVariants.{Plot};
 
-use crate::compare::samples_of;
+use crate::compare::{samples_of, warn_of_headers};
 use crate::measures::Scale;
 use std::alloc::{AllocError, Global};
 use std::io::{self, Write};
@@ -11,15 +11,16 @@ use std::rt::Files;
 use std::time::Clock;
 use v_frame::frame::Frame;
 use v_frame::pixel::Pixel;
-use v_frame_chart::{Chart, Series, svg};
+use v_frame_chart::{Chart, Series, push_text, svg};
 use v_frame_measures::{FrameMeasure, frame_ssim, frames_have_one_size};
 use v_frame_streams::{
-    CompareOptions, FrameObserver, Place, PlaneSums, Progress, Source, StreamError, compare_streams,
+    CompareOptions, FrameObserver, Place, PlaneSums, Progress, Source, StreamError, check_formats,
+    compare_streams,
 };
-use yuv_files::SystemFile;
+use yuv_files::{FileKind, SystemFile};
 use yuv_system::{
-    Fault, Output, Status, System, begin, expected_frames, no_memory, open_file, taken_of_both,
-    test_compared, write_text,
+    Fault, Output, Status, System, Target, begin, expected_frames, is_broken, no_memory, open_file,
+    taken_of_both, test_compared, test_target, write_formats, write_text,
 };
 use yuv_words::{Call, Options};
 
@@ -43,26 +44,34 @@ where
     let (first, second, to) = (call.first, call.second, call.third);
     let options = &call.options;
     let rt = system.rt;
+    let target = Target {
+        name: to,
+        written: FileKind::Svg,
+        inputs: &[first, second],
+        is_forced: options.force,
+    };
+    test_target(rt, &target)?;
     let mut file = open_file(rt, first, Place::First, &mut system.input)?;
     let len = file.len();
     let mut one = begin(system, first, &mut file, options.raw)?;
     let mut other_file = open_file(rt, second, Place::Second, &mut system.input)?;
     let mut other = begin(system, second, &mut other_file, options.raw_second)?;
+    write_formats(system.progress.out(), one.header(), other.header());
+    check_formats(&one, &other)?;
+    warn_of_headers(system.progress.out(), options, one.header(), other.header());
     system.progress.expect(expected_frames(&one, len));
     let progress = &mut system.progress;
     let names = (first, second);
-    let text = drawn(rt.alloc(), &mut one, &mut other, options, names, progress)?;
+    let (text, broken) = drawn(rt.alloc(), &mut one, &mut other, options, names, progress)?;
     system.progress.end();
-    let mut output = Output::open(
-        rt,
-        to,
-        &[first, second],
-        &mut system.output,
-        system.progress.out(),
-    )?;
+    let mut output = Output::open(rt, &target, &mut system.output, system.progress.out())?;
     let done = write_drawn(&mut output, text.as_str());
     drop(text);
-    output.settle(rt, done)
+    let status = output.settle(rt, done)?;
+    match broken {
+        Some(error) => Err(Fault::Stream(error)),
+        None => Ok(status),
+    }
 }
 
 /// Writes the chart.
@@ -73,7 +82,8 @@ fn write_drawn<W: Write + Drop>(mut out: W, text: &str) -> Result<Status, Fault>
     }
 }
 
-/// Returns the chart of what is taken of both streams.
+/// Returns the chart of what is taken of both streams. If one of them breaks off, the chart has the frames before, and the error is
+/// returned with it.
 fn drawn<R: io::Read, S: io::Read, P: Progress>(
     alloc: Global,
     first: &mut Source<R>,
@@ -81,7 +91,7 @@ fn drawn<R: io::Read, S: io::Read, P: Progress>(
     options: &Options,
     names: (&str, &str),
     progress: &mut P,
-) -> Result<String, Fault> {
+) -> Result<(String, Option<StreamError>), Fault> {
     let mut curves = Curves::new(
         alloc,
         first_frame(options),
@@ -92,10 +102,22 @@ fn drawn<R: io::Read, S: io::Read, P: Progress>(
         },
     );
     let taken = frames_taken(options);
-    let found = compare_streams(alloc, first, second, &taken, &mut curves, progress)?;
-    test_compared(&found, first, second, &taken)?;
-    match curves.chart(alloc, names) {
-        Ok(text) => Ok(text),
+    let mut are_same = false;
+    let broken = match compare_streams(alloc, first, second, &taken, &mut curves, progress) {
+        Ok(found) => {
+            test_compared(&found, first, second, &taken)?;
+            are_same = found.shows_the_same();
+            None
+        }
+        Err(error) => {
+            if !is_broken(&error) || curves.psnr.y.is_empty() {
+                return Err(Fault::Stream(error));
+            }
+            Some(error)
+        }
+    };
+    match curves.chart(alloc, names, are_same) {
+        Ok(text) => Ok((text, broken)),
         Err(_) => Err(Fault::Stream(no_memory())),
     }
 }
@@ -222,25 +244,79 @@ impl Curves {
         }
     }
 
-    /// Returns the charts, one above the other.
-    fn chart(&self, alloc: Global, (first, second): (&str, &str)) -> Result<String, AllocError> {
-        let title = format!(in alloc; "{first} and {second}")?;
-        let psnr = self
-            .psnr
-            .chart(alloc, title.as_str(), "PSNR (dB)", self.first)?;
-        if self.ssim.y.is_empty() {
-            return Ok(psnr);
-        }
-        let ssim = self.ssim.chart(alloc, title.as_str(), "SSIM", self.first)?;
+    /// Returns the charts, one above the other, with the names of both files above them.
+    fn chart(
+        &self,
+        alloc: Global,
+        (first, second): (&str, &str),
+        are_same: bool,
+    ) -> Result<String, AllocError> {
+        let psnr = self.psnr.chart(alloc, "PSNR", "dB", self.first)?;
         let mut text = String::new(alloc);
-        text.push_str("<svg xmlns=\"http://www.w3.org/2000/svg\" width=\"960\" height=\"840\" ")?;
-        text.push_str("viewBox=\"0 0 960 840\">\n")?;
+        if self.ssim.y.is_empty() {
+            push_head(&mut text, 220)?;
+        } else {
+            push_head(&mut text, 420)?;
+        }
+        push_names(alloc, &mut text, first, second, are_same)?;
+        text.push_str("<g transform=\"translate(0 20)\">\n")?;
         text.push_str(psnr.as_str())?;
-        text.push_str("<g transform=\"translate(0 420)\">\n")?;
-        text.push_str(ssim.as_str())?;
-        text.push_str("</g>\n</svg>\n")?;
+        text.push_str("</g>\n")?;
+        if !self.ssim.y.is_empty() {
+            let ssim = self.ssim.chart(alloc, "SSIM", "", self.first)?;
+            text.push_str("<g transform=\"translate(0 220)\">\n")?;
+            text.push_str(ssim.as_str())?;
+            text.push_str("</g>\n")?;
+        }
+        text.push_str("</svg>\n")?;
         Ok(text)
     }
+}
+
+/// Appends the head of a white picture of this height.
+fn push_head(text: &mut String, height: usize) -> Result<(), AllocError> {
+    write!(
+        text,
+        "<svg xmlns=\"http://www.w3.org/2000/svg\" width=\"960\" height=\"{height}\" viewBox=\"0 0 960 {height}\">\n\
+         <rect width=\"960\" height=\"{height}\" fill=\"#ffffff\"/>\n"
+    )
+}
+
+/// Appends the names of two files, and whether their frames are the same.
+fn push_names(
+    alloc: Global,
+    text: &mut String,
+    first: &str,
+    second: &str,
+    are_same: bool,
+) -> Result<(), AllocError> {
+    let one = shortened(alloc, first)?;
+    let other = shortened(alloc, second)?;
+    let (one, other) = (one.as_str(), other.as_str());
+    let names = if are_same {
+        format!(in alloc; "{one} and {other}: all frames are identical")?
+    } else {
+        format!(in alloc; "{one} and {other}")?
+    };
+    push_text(
+        text,
+        "x=\"76\" y=\"15\" font-family=\"sans-serif\" font-size=\"13\" fill=\"#333333\"",
+        names.as_str(),
+    )
+}
+
+/// Returns a name with at most 48 characters: of a longer one the first and the last, and three dots between them.
+fn shortened(alloc: Global, name: &str) -> Result<String, AllocError> {
+    let count = name.chars().count();
+    let mut text = String::new(alloc);
+    for (k, letter) in name.chars().enumerate() {
+        if count <= 48 || k < 22 || k >= count - 23 {
+            text.push(letter)?;
+        } else if k == 22 {
+            text.push_str("...")?;
+        }
+    }
+    Ok(text)
 }
 
 impl<T: Pixel> FrameObserver<T> for Curves {

@@ -1,2 +1,4 @@
 pub mod Fields
 pub mod Shows
+pub mod Targets
+pub mod Warnings

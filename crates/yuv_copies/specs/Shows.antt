@@ -5,8 +5,6 @@ use Rattle.std.specs.Int.NonZero.{non_zero_u8_get}
 use Rattle.v_frame.specs.Prelude.{ChromaSubsampling, Frame, PixelForm, Raster, Table, Tables, table_of, tables_of}
 use Rattle.v_frame_png.specs.Prelude.{HasFile}
 use Rattle.v_frame_png.specs.declared.header.Header.{Header}
-use Rattle.v_frame_rgb.specs.declared.standard.ColorRange.TheVariants.{Limited}
-use Rattle.v_frame_rgb.specs.declared.standard.Standard.TheVariants.{Bt709}
 use Rattle.v_frame_y4m.specs.Color.{subsampling_of}
 use Rattle.v_frame_y4m.specs.declared.header.StreamHeader.{StreamHeader}
 use Rattle.yuv_pictures.specs.Prelude.{frame_rows, frame_samples, gray_rows, gray_samples}
@@ -14,6 +12,7 @@ use Rattle.yuv_pictures.specs.Prelude.{picture_header, plane_named, StopsFrame, 
 use Rattle.yuv_pictures.specs.declared.colors.Colors.{Colors}
 use Rattle.yuv_pictures.specs.declared.error.PictureError.{PictureError}
 use Rattle.yuv_pictures.specs.declared.error.PictureError.TheVariants.{NoPlane}
+use Rattle.yuv_system.specs.Headers.{matrix_of, used_range}
 use Rattle.yuv_system.specs.Options.{most_pixels}
 use Rattle.v_frame_streams.specs.Conversions.{format_in, format_of, sizes_laid_out}
 use Rattle.v_frame_streams.specs.Prelude.{cropped, sizes_in, IsTakable, ReadsBehind, Sizes, Stream}
@@ -21,10 +20,10 @@ use Rattle.v_frame_formats.specs.declared.rectangle.Rectangle.{Rectangle}
 use Rattle.v_frame_formats.specs.declared.component.Component.{Component}
 use Rattle.yuv_words.specs.declared.command.Options.{Options as OptionWords}
 
--- by which standard and range colors are made: by BT.709 of limited range, where nobody says
-abbrev pub colors_asked : OptionWords → Colors
-colors_asked options =
-    record { standard = unwrap_or options.matrix Bt709; range = unwrap_or options.range Limited }
+-- by which standard and range the colors of pictures of a stream are made
+abbrev pub colors_asked : OptionWords → StreamHeader → Colors
+colors_asked options header =
+    record { standard = matrix_of options.matrix header; range = used_range options.range header }
 
 -- the header of a picture, and the bytes of its rows
 abbrev pub Drawing : Type 0
@@ -52,9 +51,9 @@ module _ {T : Type 0} (form : PixelForm T) (frame : Frame T) where
   drawing_of None colors = Some (color_drawing colors)
   drawing_of (Some name) colors = option_map plane_drawing (plane_named frame name)
 
-  -- what the options ask for
-  abbrev pub drawing_asked : OptionWords → Option Drawing
-  drawing_asked options = drawing_of options.plane (colors_asked options)
+  -- what the options ask for of a stream
+  abbrev pub drawing_asked : OptionWords → StreamHeader → Option Drawing
+  drawing_asked options header = drawing_of options.plane (colors_asked options header)
 
 -- why that is not drawn, of pixels of so many bytes
 abbrev pub StopsDrawing : {T : Type 0} → ℕ → Frame T → Option Component → PictureError → Type 0
@@ -96,5 +95,5 @@ module _ (stream : Stream) (left left' : Option (List ℕ)) (options : OptionWor
         ≡ part_shown (subsampling_of stream.header.color) options.crop tables
     pub sizes : sizes_laid_out frame ≡ sizes_shown options.crop stream.header
     pub format : format_of frame ≡ format_in stream.header.color
-    pub file : IsSomeAnd (drawing_asked form frame options)
+    pub file : IsSomeAnd (drawing_asked form frame options stream.header)
         (λ drawing. HasFile contents start new drawing.0 drawing.1)

@@ -2,7 +2,7 @@
 ghost use Rattle.std.specs.Prelude.{◌≡◌, IfErr, IfOk, IsSomeAnd};
 ghost use Rattle.v_frame_png.specs.Prelude.{HasFile};
 ghost use Rattle.v_frame.specs.Prelude.{tables_of};
-ghost use Rattle.yuv_copies.specs.Shows.{colors_asked, drawing_asked, ShowsFrame, StopsDrawing, TakesFrame};
+ghost use Rattle.yuv_copies.specs.Shows.{colors_asked, drawing_of, ShowsFrame, StopsDrawing, TakesFrame};
 ghost use Rattle.yuv_pictures.specs.declared.error.PictureError.{PictureError as TheError};
 ghost use Rattle.v_frame_streams.specs.Conversions.{format_in, format_of, sizes_laid_out};
 ghost use Rattle.v_frame_streams.specs.Prelude.{bytes_left, cropped, sizes_in, stream_of, IsUnpadded};
@@ -14,13 +14,17 @@ use std::rt::Files;
 use std::time::Clock;
 use v_frame::frame::Frame;
 use v_frame::pixel::Pixel;
-use v_frame_rgb::{ColorRange, Standard};
+use v_frame_formats::Component;
 use v_frame_streams::{Picture, Place, Rectangle, Source, StreamError, check_crop, crop_frame};
-use yuv_files::SystemFile;
-use yuv_pictures::{Colors, PictureError, write_frame_picture, write_plane_picture};
+use v_frame_y4m::StreamHeader;
+use yuv_files::{FileKind, SystemFile};
+use yuv_pictures::{
+    Colors, PictureError, has_sample_above, write_frame_picture, write_plane_picture,
+};
 use yuv_system::{
-    Fault, Output, Status, System, begin, frames_before, most_pixels, open_file, read_behind,
-    test_pixels,
+    Fault, Output, Status, System, Target, begin, frames_before, is_standard_output, matrix_name,
+    most_pixels, no_memory, open_file, range_name, read_behind, test_pixels, test_target,
+    used_matrix, used_range, write_above, write_made, write_size_of_crop, write_text,
 };
 use yuv_words::{Call, Options};
 
@@ -45,6 +49,13 @@ where
     let (from, to) = (call.first, call.second);
     let options = &call.options;
     let rt = system.rt;
+    let target = Target {
+        name: to,
+        written: FileKind::Png,
+        inputs: &[from],
+        is_forced: options.force,
+    };
+    test_target(rt, &target)?;
     let mut file = open_file(rt, from, Place::First, &mut system.input)?;
     let mut source = begin(system, from, &mut file, options.raw)?;
     // Before a file is made for the picture.
@@ -53,17 +64,52 @@ where
         Place::First,
         most_pixels(options.max_pixels),
     )?;
-    let mut output = Output::open(rt, to, &[from], &mut system.output, system.progress.out())?;
+    let mut output = Output::open(rt, &target, &mut system.output, system.progress.out())?;
+    let colors = colors_of(options, source.header());
+    let mut above = None;
     let shown = if source.header().color.bit_depth() == 8 {
-        show_frame::<u8, _, _>(rt.alloc(), &mut source, options, &mut output)
+        show_frame::<u8, _, _>(rt.alloc(), &mut source, options, &mut output, &mut above)
     } else {
-        show_frame::<u16, _, _>(rt.alloc(), &mut source, options, &mut output)
+        show_frame::<u16, _, _>(rt.alloc(), &mut source, options, &mut output, &mut above)
     };
+    write_above(system.progress.out(), from, &source, above);
     let done = match shown {
-        Ok(_written) => Ok(Status::Same),
-        Err(fault) => Err(fault),
+        Ok(_written) => Ok(()),
+        Err(fault) => {
+            if let Fault::Stream(error) = &fault {
+                write_size_of_crop(system.progress.out(), from, source.header(), &error.problem);
+            }
+            Err(fault)
+        }
     };
-    output.settle(rt, done)
+    output.settle(rt, done)?;
+    if options.plane.is_none() {
+        report_colors(system, to, &colors)?;
+    }
+    Ok(Status::Same)
+}
+
+/// Reports by which matrix and which range the colors of a picture were made: on standard error if the picture goes to standard
+/// output.
+fn report_colors<H: AllocGlobal + Clock, I, O: io::Write, E: io::Write>(
+    system: &mut System<'_, H, I, O, E>,
+    to: &str,
+    colors: &Colors,
+) -> Result<(), Fault> {
+    let (matrix, range) = (matrix_name(colors.standard), range_name(colors.range));
+    let text = format!(in system.rt.alloc(); "matrix {matrix}, range {range}\n");
+    if is_standard_output(to) {
+        let Ok(text) = text else {
+            return Err(Fault::Report(no_memory()));
+        };
+        // The picture is written, whether this can be said or not.
+        let _ = write_text(system.progress.out(), text.as_str());
+        return Ok(());
+    }
+    match write_made(&mut system.output, text) {
+        Ok(()) => Ok(()),
+        Err(error) => Err(Fault::Report(error)),
+    }
 }
 
 /// Writes the frame that the options name, or a part of it, and returns the writer.
@@ -72,17 +118,28 @@ fn show_frame<T: Pixel, R: io::Read, W: io::Write + Drop>(
     source: &mut Source<R>,
     options: &Options,
     out: W,
+    above: &mut Option<u64>,
 ) -> Result<W, Fault>
     ensures { IfOk result (ShowsFrame (stream_of source.old) (bytes_left R.remaining source.old)
         (bytes_left R.remaining source.new) options.now T.form W.contents (W.contents out)) }
 {
+    let colors = colors_of(options, source.header());
     let picture = read_picture::<T, _>(alloc, source, options)?;
+    note_above(&picture.frame, options.frame, above);
     match &options.crop {
-        None => write_picture(alloc, out, picture.frame(), options),
+        None => write_picture(alloc, out, picture.frame(), options.plane, colors),
         Some(part) => {
             let frame = crop_picture(alloc, source, &picture, part)?;
-            write_picture(alloc, out, &frame, options)
+            write_picture(alloc, out, &frame, options.plane, colors)
         }
+    }
+}
+
+/// Notes the number of a frame, 1 unless one is asked for, if the frame has a sample above the greatest value of its bit depth. No sample
+/// of 8 bits is above them.
+fn note_above<T: Pixel>(frame: &Frame<T>, number: Option<u64>, above: &mut Option<u64>) {
+    if frame.bit_depth.get() > 8 && has_sample_above(frame) {
+        *above = Some(number.unwrap_or(1));
     }
 }
 
@@ -133,19 +190,20 @@ fn crop_picture<T: Pixel, R: io::Read>(
     }
 }
 
-/// Writes a frame as the options say, and returns the writer.
+/// Writes one plane of a frame, or its colors, and returns the writer.
 fn write_picture<T: Pixel, W: io::Write + Drop>(
     alloc: Global,
     out: W,
     frame: &Frame<T>,
-    options: &Options,
+    plane: Option<Component>,
+    colors: Colors,
 ) -> Result<W, Fault>
-    ensures file { IfOk result (λ new. IsSomeAnd (drawing_asked T.form frame.now options.now)
+    ensures file { IfOk result (λ new. IsSomeAnd (drawing_of T.form frame.now plane colors)
         (λ drawing. HasFile W.contents (W.contents out) new drawing.0 drawing.1)) }
     ensures error { IfErr result (λ fault. (error : TheError)
-        × (fault ≡ Fault.Picture error) × StopsDrawing T.BYTES frame.now options.now.plane error) }
+        × (fault ≡ Fault.Picture error) × StopsDrawing T.BYTES frame.now plane error) }
 {
-    match draw_picture(alloc, out, frame, options) {
+    match draw_picture(alloc, out, frame, plane, colors) {
         Ok(out) => Ok(out),
         Err(error) => Err(Fault::Picture(error)),
     }
@@ -156,24 +214,25 @@ fn draw_picture<T: Pixel, W: io::Write + Drop>(
     alloc: Global,
     out: W,
     frame: &Frame<T>,
-    options: &Options,
+    plane: Option<Component>,
+    colors: Colors,
 ) -> Result<W, PictureError>
-    ensures file { IfOk result (λ new. IsSomeAnd (drawing_asked T.form frame.now options.now)
+    ensures file { IfOk result (λ new. IsSomeAnd (drawing_of T.form frame.now plane colors)
         (λ drawing. HasFile W.contents (W.contents out) new drawing.0 drawing.1)) }
-    ensures error { IfErr result (StopsDrawing T.BYTES frame.now options.now.plane) }
+    ensures error { IfErr result (StopsDrawing T.BYTES frame.now plane) }
 {
-    match options.plane {
+    match plane {
         Some(plane) => write_plane_picture(alloc, out, frame, plane),
-        None => write_frame_picture(alloc, out, frame, colors_of(options)),
+        None => write_frame_picture(alloc, out, frame, colors),
     }
 }
 
-/// Returns how colors are made: as BT.709 of limited range has it, where the options are silent.
-fn colors_of(options: &Options) -> Colors
-    ensures { result ≡ colors_asked options.now }
+/// Returns how the colors of the pictures of a stream are made: as the options say, or else as the header says.
+fn colors_of(options: &Options, header: &StreamHeader) -> Colors
+    ensures { result ≡ colors_asked options.now header.now }
 {
     Colors {
-        standard: options.matrix.unwrap_or(Standard::Bt709),
-        range: options.range.unwrap_or(ColorRange::Limited),
+        standard: used_matrix(options.matrix, header),
+        range: used_range(options.range, header),
     }
 }

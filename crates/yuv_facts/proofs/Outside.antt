@@ -1,16 +1,17 @@
 -- How many values are outside of a range, one value on.
 use Rattle.std.proofs.Common.{◌≡◌, ◌∙◌, ◌+◌, ◌<◌, ◌∷◌, [], ℕ, zero, suc, List, add-one, add-zero, add_assoc, ap, arith, length, sym, take, zero-add}
 use Rattle.std.proofs.Math.ListN.{get_or}
-use Rattle.std.specs.Prelude.{◌||◌, if◌then◌else◌, nat_lt}
-use Rattle.yuv_facts.specs.Statistics.{outside_from}
+use Rattle.std.specs.Prelude.{if◌then◌else◌}
+use Rattle.yuv_facts.specs.Statistics.{is_outside, outside_from}
+use Rattle.yuv_facts.specs.declared.statistics.NominalRange.{NominalRange}
 
-module _ (least greatest : ℕ) where
+module _ (range : NominalRange) where
   one : ℕ → ℕ → ℕ
-  one value count = if nat_lt value least || nat_lt greatest value then count else 0
+  one value count = if is_outside range value then count else 0
 
   more_outside : (start : ℕ) (counts : List ℕ) (i d : ℕ) → i < length counts
-      → outside_from least greatest start (take (suc i) counts)
-      ≡ outside_from least greatest start (take i counts) + one (start + i) (get_or counts i d)
+      → outside_from range start (take (suc i) counts)
+      ≡ outside_from range start (take i counts) + one (start + i) (get_or counts i d)
   unfolding one
   more_outside start [] i d within = absurd (omega arith)
   more_outside start (count ∷ counts) zero d within =
@@ -19,15 +20,15 @@ module _ (least greatest : ℕ) where
       let place : start + 1 + i ≡ start + suc i = omega arith in
       ap (λ n. one start count + n) (more_outside (start + 1) counts i d (omega arith))
       ∙ ap (λ n. one start count
-      + (outside_from least greatest (start + 1) (take i counts) + one n (get_or counts i d))) place
-      ∙ sym (add_assoc (one start count) (outside_from least greatest (start + 1) (take i counts))
+      + (outside_from range (start + 1) (take i counts) + one n (get_or counts i d))) place
+      ∙ sym (add_assoc (one start count) (outside_from range (start + 1) (take i counts))
       (one (start + suc i) (get_or counts i d)))
 
   pub outside_more : (counts : List ℕ) (i d : ℕ) → i < length counts
-      → outside_from least greatest 0 (take (i + 1) counts)
-      ≡ outside_from least greatest 0 (take i counts)
-      + (if nat_lt i least || nat_lt greatest i then get_or counts i d else 0)
+      → outside_from range 0 (take (i + 1) counts)
+      ≡ outside_from range 0 (take i counts)
+      + (if is_outside range i then get_or counts i d else 0)
   unfolding one
   outside_more counts i d within =
-      ap (λ n. outside_from least greatest 0 (take n counts)) (add-one i) ∙ more_outside 0 counts i d within
-      ∙ ap (λ n. outside_from least greatest 0 (take i counts) + one n (get_or counts i d)) (zero-add i)
+      ap (λ n. outside_from range 0 (take n counts)) (add-one i) ∙ more_outside 0 counts i d within
+      ∙ ap (λ n. outside_from range 0 (take i counts) + one n (get_or counts i d)) (zero-add i)

@@ -12,6 +12,7 @@ use Rattle.yuv_facts.specs.Checksums.{SumsFrom}
 use Rattle.yuv_facts.specs.Facts.{stream_facts}
 use Rattle.yuv_facts.specs.Info.{ReportsStream}
 use Rattle.yuv_facts.specs.Statistics.{ReportsValues}
+use Rattle.yuv_system.specs.Headers.{used_range}
 use Rattle.yuv_system.specs.Inputs.{OpensFile}
 use Rattle.yuv_system.specs.declared.input_file.InputFile.{InputFile}
 use Rattle.yuv_words.specs.declared.command.Call.{Call}
@@ -54,7 +55,9 @@ module _ {F I : Type 0} (files : F → Option (List ℕ)) (standard : I → Opti
     pub found : ℕ
     pub bytes : depth_of source.header.color ≡ 8 → ReportsValues one_byte (256 ^ 1)
         source.container source.frame_len source.layout (sizes_in source.header) left rest has
-        has' call.options (depth_of source.header.color) found
+        has' call.options (used_range call.options.range source.header)
+        (depth_of source.header.color) found
     pub words : depth_of source.header.color ≢ 8 → ReportsValues two_bytes (256 ^ 2)
         source.container source.frame_len source.layout (sizes_in source.header) left rest has
-        has' call.options (depth_of source.header.color) found
+        has' call.options (used_range call.options.range source.header)
+        (depth_of source.header.color) found

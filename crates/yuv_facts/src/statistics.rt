@@ -1,43 +1,76 @@
 //! What is said of a plane, of whose values it is known how often they occur.
-ghost use Rattle.std.specs.Prelude.{◌≡◌, ◌-◌, ◌^◌, ◌<◌, ◌≤◌, ◌||◌, ℕ, if◌then◌else◌, length, min, nat_lt, slice_index, IfSome, IsNone, OnOk, string_bytes};
-ghost use Rattle.yuv_facts.specs.Statistics.{nominal_at, outside_from, AppendsChroma, AppendsPlane, Describes, HasNoValue};
+ghost use Rattle.std.specs.Prelude.{◌≡◌, ◌-◌, ◌^◌, ◌<◌, ◌≤◌, ℕ, if◌then◌else◌, length, min, slice_index, IfSome, IsNone, OnOk, string_bytes};
+ghost use Rattle.yuv_facts.specs.Statistics.{is_outside, most_at, nominal_at, nominal_range, outside_from, range_up_to, AppendsChroma, AppendsPlane, Describes, HasNoValue};
 
 use crate::value_counts::ValueCounts;
 use std::alloc::{AllocError, Global};
 use std::num::nearest_u64_to_f64;
 use v_frame_formats::Component;
+use v_frame_rgb::ColorRange;
 use yuv_reports::{SampleStatistics, push_statistics};
 
-/// The range that samples have where nothing is out of the ordinary.
+/// The values that samples usually have, from `least` to `greatest`, and the greatest value of their bit depth, `most`.
 #[derive(Clone, Copy)]
 pub(crate) struct NominalRange {
     pub(crate) least: u16,
     pub(crate) greatest: u16,
+    pub(crate) most: u16,
 }
 
 impl NominalRange {
-    /// Returns the range at a depth of what is one in 8 bits, as ITU-R BT.601 and BT.709 have it.
-    pub(crate) fn new(least: u8, greatest: u8, depth: u8) -> Self
-        ensures least { result.least ≡ nominal_at depth least }
-        ensures greatest { result.greatest ≡ nominal_at depth greatest }
+    /// Returns the range of samples of a bit depth: all values of the depth in the full range. In the limited range the values that
+    /// stand for 16 to `top` of 8 bits, as ITU-R BT.601 and BT.709 have it.
+    pub(crate) fn new(range: ColorRange, top: u8, depth: u8) -> Self
+        ensures { result ≡ nominal_range range top depth }
     {
-        NominalRange {
-            least: nominal(least, depth),
-            greatest: nominal(greatest, depth),
+        let most = most_of(depth);
+        match range {
+            ColorRange::Limited => NominalRange {
+                least: nominal(16, depth),
+                greatest: nominal(top, depth),
+                most,
+            },
+            ColorRange::Full => NominalRange {
+                least: 0,
+                greatest: most,
+                most,
+            },
         }
     }
 
-    /// Returns how often a value occurs, where it is outside of the range, and else 0.
-    fn count_outside(self, value: usize, count: u64) -> u64
-        ensures { result ≡ (if nat_lt value self.least || nat_lt self.greatest value then count
-            else 0) }
+    /// Returns the range that all values above the bit depth are outside of, and no other value.
+    fn up_to_most(self) -> Self
+        ensures { result ≡ range_up_to self.most }
     {
-        if value < usize::from(self.least) || value > usize::from(self.greatest) {
+        NominalRange {
+            least: 0,
+            greatest: self.most,
+            most: u16::MAX,
+        }
+    }
+
+    /// Returns `count`, how often a value occurs, if the value is outside of the range and not above `most`, and otherwise 0.
+    fn count_outside(self, value: usize, count: u64) -> u64
+        ensures { result ≡ (if is_outside self value then count else 0) }
+    {
+        if value < usize::from(self.least)
+            || value > usize::from(self.greatest) && value <= usize::from(self.most)
+        {
             count
         } else {
             0
         }
     }
+}
+
+/// Returns the greatest value of a bit depth.
+fn most_of(depth: u8) -> u16
+    ensures { result ≡ most_at depth }
+{
+    if depth == 0 {
+        return 0;
+    }
+    u16::MAX >> 16u8.saturating_sub(depth)
 }
 
 /// Returns the value that stands at a depth for one of 8 bits.
@@ -55,7 +88,7 @@ pub(crate) fn push_plane(
     counts: &ValueCounts,
     range: NominalRange,
 ) -> Result<(), AllocError>
-    ensures { OnOk result (AppendsPlane plane counts.now.counts.items range.least range.greatest
+    ensures { OnOk result (AppendsPlane plane counts.now.counts.items range
         (string_bytes text.old) (string_bytes text.new)) }
 {
     match described(plane, counts.counts(), range) {
@@ -72,8 +105,8 @@ pub(crate) fn push_chroma_plane(
     counts: &Option<ValueCounts>,
     range: NominalRange,
 ) -> Result<(), AllocError>
-    ensures { OnOk result (AppendsChroma plane counts.now range.least range.greatest
-        (string_bytes text.old) (string_bytes text.new)) }
+    ensures { OnOk result (AppendsChroma plane counts.now range (string_bytes text.old)
+        (string_bytes text.new)) }
 {
     match counts {
         Some(counts) => push_plane(alloc, text, plane, counts, range),
@@ -84,7 +117,7 @@ pub(crate) fn push_chroma_plane(
 /// Returns what is said of a plane with these counts. `None` where no value occurs.
 fn described(plane: Component, counts: &[u64], range: NominalRange) -> Option<SampleStatistics>
     requires { length counts.now ≤ 2 ^ 16 }
-    ensures said { IfSome result (Describes plane counts.now range.least range.greatest) }
+    ensures said { IfSome result (Describes plane counts.now range) }
     ensures none { IsNone result → HasNoValue counts.now }
 {
     let minimum = minimum(counts)?;
@@ -95,6 +128,8 @@ fn described(plane: Component, counts: &[u64], range: NominalRange) -> Option<Sa
         maximum,
         mean: mean(counts),
         outside: outside(counts, range),
+        most: range.most,
+        above: outside(counts, range.up_to_most()),
     })
 }
 
@@ -144,9 +179,9 @@ fn mean(counts: &[u64]) -> f64 {
     quotient(sum, all)
 }
 
-/// Returns how many values are outside of a range. It is `u64::MAX` where there are more.
+/// Returns how many values are outside of a range and not above its `most`. It is `u64::MAX` where there are more.
 fn outside(counts: &[u64], range: NominalRange) -> u64
-    ensures { result ≡ min (outside_from range.least range.greatest 0 counts.now) (2 ^ 64 - 1) }
+    ensures { result ≡ min (outside_from range 0 counts.now) (2 ^ 64 - 1) }
 {
     let mut outside = 0u64;
     for value in 0..counts.len() {

@@ -7,6 +7,7 @@ ghost use Rattle.yuv_facts.specs.Inputs.{ReportsValuesOfInput};
 ghost use Rattle.yuv_facts.specs.Statistics.{ReportsValues, SaysCounts, SaysPlanes};
 ghost use Rattle.yuv_facts.specs.Values.{histogram_said, rows_of_chroma, CountsChroma, CountsFrame, CountsFrom, CountsNothing, CountsStream};
 ghost use Rattle.v_frame_streams.specs.Prelude.{bytes_left, sizes_in, IsMadeFor};
+ghost use Rattle.yuv_system.specs.Headers.{used_range as range_used};
 ghost use Rattle.yuv_words.specs.declared.command.CommandName.TheVariants.{Stats};
 
 use crate::statistics::{NominalRange, push_chroma_plane, push_plane};
@@ -20,11 +21,12 @@ use std::time::Clock;
 use v_frame::frame::Frame;
 use v_frame::plane::Plane;
 use v_frame_formats::Component;
+use v_frame_rgb::ColorRange;
 use v_frame_streams::{Picture, Place, Progress, Silent, Source, StreamError, skip_frames};
 use yuv_reports::push_histogram;
 use yuv_system::{
     Fault, ProgressLine, Status, System, begin, expected_frames, most_pixels, no_memory,
-    nothing_taken, open_file, write_made, write_nothing,
+    nothing_taken, open_file, used_range, write_made, write_nothing,
 };
 use yuv_words::{Call, Options};
 
@@ -61,7 +63,8 @@ where
     Ok(Status::Same)
 }
 
-/// Writes what values the samples of a stream have, and returns of how many frames.
+/// Writes what values the samples of a stream have, and returns of how many frames. If the stream breaks off, the values of the frames
+/// before are written, and then the error is returned.
 fn report_values<R: io::Read, W: io::Write, H: Clock, E: io::Write>(
     alloc: Global,
     source: &mut Source<R>,
@@ -73,12 +76,14 @@ fn report_values<R: io::Read, W: io::Write, H: Clock, E: io::Write>(
         (256 ^ 1) source.old.container source.old.frame_len source.old.layout
         (sizes_in source.old.header) (bytes_left R.remaining source.old)
         (bytes_left R.remaining source.new) (W.contents out.old) (W.contents out.new)
-        options.now (depth_of source.old.header.color)) }
+        options.now (range_used options.now.range source.old.header)
+        (depth_of source.old.header.color)) }
     ensures words { depth_of source.old.header.color ≢ 8 → IfOk result (ReportsValues two_bytes
         (256 ^ 2) source.old.container source.old.frame_len source.old.layout
         (sizes_in source.old.header) (bytes_left R.remaining source.old)
         (bytes_left R.remaining source.new) (W.contents out.old) (W.contents out.new)
-        options.now (depth_of source.old.header.color)) }
+        options.now (range_used options.now.range source.old.header)
+        (depth_of source.old.header.color)) }
 {
     if source.header().color.bit_depth() == 8 {
         report_pixels::<u8, _, _, _, _>(alloc, source, options, out, progress)
@@ -99,15 +104,16 @@ fn report_pixels<T: CountedPixel, R: io::Read, W: io::Write, H: Clock, E: io::Wr
         source.old.frame_len source.old.layout (sizes_in source.old.header)
         (bytes_left R.remaining source.old) (bytes_left R.remaining source.new)
         (W.contents out.old) (W.contents out.new) options.now
-        (depth_of source.old.header.color)) }
+        (range_used options.now.range source.old.header) (depth_of source.old.header.color)) }
 {
     let depth = source.header().color.bit_depth();
-    let (counts, found) = count_values::<T, _, _>(alloc, source, options, progress)?;
-    let text = report_text(alloc, &counts, options.histogram, depth);
+    let range = used_range(options.range, source.header());
+    let (counts, counted) = count_values::<T, _, _>(alloc, source, options, progress)?;
+    let text = report_text(alloc, &counts, options.histogram, range, depth);
     drop(counts);
     progress.end();
     write_made(out, text)?;
-    Ok(found)
+    counted
 }
 
 /// How often each value occurs in each plane.
@@ -118,17 +124,18 @@ struct Counts {
     v: Option<ValueCounts>,
 }
 
-/// Counts the values of the frames that are asked for, and these.
+/// Counts the values of the frames that are asked for, and these frames. If the stream breaks off, returns the values of the frames
+/// before with the error.
 fn count_values<T: CountedPixel, R: io::Read, P: Progress>(
     alloc: Global,
     source: &mut Source<R>,
     options: &Options,
     progress: &mut P,
-) -> Result<(Counts, u64), StreamError>
-    ensures { IfOk result (λ done. CountsFrom T.form (256 ^ T.BYTES) source.old.container
-        source.old.frame_len source.old.layout (sizes_in source.old.header)
+) -> Result<(Counts, Result<u64, StreamError>), StreamError>
+    ensures { IfOk result (λ done. IfOk done.1 (λ found. CountsFrom T.form (256 ^ T.BYTES)
+        source.old.container source.old.frame_len source.old.layout (sizes_in source.old.header)
         (bytes_left R.remaining source.old) (bytes_left R.remaining source.new)
-        options.now done.1 done.0) }
+        options.now found done.0)) }
 {
     let mut picture = Picture::<T>::new(alloc, source, most_pixels(options.max_pixels))?;
     skip_frames(source, options.skip.unwrap_or(0), &mut Silent)?;
@@ -137,8 +144,8 @@ fn count_values<T: CountedPixel, R: io::Read, P: Progress>(
         return Err(no_memory());
     };
     let most = options.count.unwrap_or(u64::MAX);
-    let found = count_frames(alloc, source, &mut picture, most, &mut counts, progress)?;
-    Ok((counts, found))
+    let counted = count_frames(alloc, source, &mut picture, most, &mut counts, progress);
+    Ok((counts, counted))
 }
 
 /// Adds the values of so many frames to counts of nothing, or those of all that are left where they are fewer.
@@ -223,14 +230,15 @@ fn report_text(
     alloc: Global,
     counts: &Counts,
     histogram: bool,
+    range: ColorRange,
     depth: u8,
 ) -> Result<String, AllocError>
-    ensures { IfOk result (λ text. SaysCounts histogram depth counts.now (string_bytes text)) }
+    ensures { IfOk result (λ text. SaysCounts histogram range depth counts.now (string_bytes text)) }
 {
     if histogram {
         return histogram_text(alloc, counts);
     }
-    statistics_text(alloc, counts, depth)
+    statistics_text(alloc, counts, range, depth)
 }
 
 /// Returns a row for each value that occurs.
@@ -261,12 +269,17 @@ fn push_chroma(
 }
 
 /// Returns a line for each plane.
-fn statistics_text(alloc: Global, counts: &Counts, depth: u8) -> Result<String, AllocError>
-    ensures { IfOk result (λ text. SaysPlanes depth counts.now (string_bytes text)) }
+fn statistics_text(
+    alloc: Global,
+    counts: &Counts,
+    range: ColorRange,
+    depth: u8,
+) -> Result<String, AllocError>
+    ensures { IfOk result (λ text. SaysPlanes range depth counts.now (string_bytes text)) }
 {
     let mut text = String::new(alloc);
-    let luma = NominalRange::new(16, 235, depth);
-    let chroma = NominalRange::new(16, 240, depth);
+    let luma = NominalRange::new(range, 235, depth);
+    let chroma = NominalRange::new(range, 240, depth);
     push_plane(alloc, &mut text, Component::Y, &counts.y, luma)?;
     push_chroma_plane(alloc, &mut text, Component::U, &counts.u, chroma)?;
     push_chroma_plane(alloc, &mut text, Component::V, &counts.v, chroma)?;

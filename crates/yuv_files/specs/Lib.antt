@@ -1,1 +1,3 @@
 pub mod Messages
+pub mod Targets
+pub mod WorkedTargets

@@ -1,3 +1,4 @@
+pub mod Above
 pub mod Colors
 pub mod Differences
 pub mod FullChroma
@@ -5,4 +6,5 @@ pub mod Gray
 pub mod Planes
 pub mod Prelude
 pub mod Refusals
+pub mod WorkedAbove
 pub mod WorkedPictures

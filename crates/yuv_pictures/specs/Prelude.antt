@@ -1,4 +1,5 @@
 -- The words that callers' clauses cite, re-exported from one place.
+pub use Rattle.yuv_pictures.specs.Above.{most_at, AreUpTo}
 pub use Rattle.yuv_pictures.specs.Colors.{frame_colors, frame_rows, frame_samples, full_chroma}
 pub use Rattle.yuv_pictures.specs.Colors.{has_chroma, luma_shown, rgb_bytes}
 pub use Rattle.yuv_pictures.specs.Differences.{AreDifferences, IsChromaDifference}

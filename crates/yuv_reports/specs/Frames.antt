@@ -79,6 +79,10 @@ json_end difference longer =
     ++ (10
     ∷ (codes "  \"first_difference\": " ++ (difference_object difference ++ longer_member longer)))
 
+-- the count of no frames, and the end of the object
+abbrev pub no_frames : List ℕ
+no_frames = codes "  \"count\": 0" ++ (10 ∷ (codes "}" ++ (10 ∷ [])))
+
 -- ---- the end of a report
 
 -- what is said of all frames after the last float: of a table nothing, each row of which is a frame

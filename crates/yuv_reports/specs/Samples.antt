@@ -1,5 +1,5 @@
 -- The lines of statistics and of checksums.
-use Rattle.std.specs.Prelude.{ℕ, ◌≡◌, ◌/◌, ◌%◌, ◌∷◌, ◌++◌, [], List, Option, Some, None, codes, decimal, map}
+use Rattle.std.specs.Prelude.{ℕ, ◌≡◌, ◌/◌, ◌%◌, ◌∷◌, ◌++◌, ◌==◌, [], if◌then◌else◌, List, Option, Some, None, codes, decimal, map}
 use Rattle.std.specs.Char.{digit_char}
 use Rattle.v_frame_formats.specs.Prelude.{letter_of}
 use Rattle.yuv_reports.specs.declared.samples.Checksums.{Checksums}
@@ -16,10 +16,17 @@ statistics_front found =
     ++ (decimal found.minimum
     ++ (codes ", maximum " ++ (decimal found.maximum ++ codes ", mean "))))
 
+-- how many samples are above the greatest value of their depth, where one is
+abbrev pub above_said : ℕ → ℕ → List ℕ
+above_said most above =
+    if above == 0 then []
+    else codes ", above " ++ (decimal most ++ (codes ": " ++ decimal above))
+
 -- what stands after it
 abbrev pub statistics_end : SampleStatistics → List ℕ
 statistics_end found =
-    codes ", outside the nominal range " ++ (decimal found.outside ++ (10 ∷ []))
+    codes ", outside the nominal range "
+    ++ (decimal found.outside ++ (above_said found.most found.above ++ (10 ∷ [])))
 
 -- the line of a plane was appended, with some mean
 abbrev pub AppendsStatistics : List ℕ → List ℕ → SampleStatistics → Type 0

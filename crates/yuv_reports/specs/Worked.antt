@@ -1,7 +1,10 @@
 -- Small cases worked out by hand. Each line computes: it is proved by `refl`.
-use Rattle.std.specs.Prelude.{◌≡◌, Some, None, codes, refl}
-use Rattle.yuv_reports.specs.Samples.{checksum_word, sum_words}
+use Rattle.std.specs.Prelude.{◌≡◌, [], Some, None, codes, refl}
+use Rattle.yuv_reports.specs.Samples.{above_said, checksum_word, sum_words}
 use Rattle.yuv_reports.specs.declared.samples.Checksums.TheVariants.{Frame, Planes}
+
+none_above : above_said 1023 0 ≡ []
+none_above = refl
 
 -- digits in front are written too
 short_checksum : checksum_word 0xbeef ≡ codes " 0000beef"

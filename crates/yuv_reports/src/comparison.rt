@@ -1,6 +1,6 @@
-//! What is reported of two streams that are compared.
-ghost use Rattle.std.specs.Prelude.{◌≡◌, ◌==◌, ◌+◌, ◌-◌, ◌^◌, ◌++◌, is_some, min, string_bytes, MatchBool, OnOk};
-ghost use Rattle.yuv_reports.specs.Frames.{end_of_report, AppendsNext};
+//! Reports on two streams that are compared.
+ghost use Rattle.std.specs.Prelude.{◌≡◌, ◌≢◌, ◌==◌, ◌+◌, ◌-◌, ◌^◌, ◌++◌, is_some, min, string_bytes, MatchBool, OnOk};
+ghost use Rattle.yuv_reports.specs.Frames.{end_of_report, no_frames, AppendsNext};
 ghost use Rattle.yuv_reports.specs.Sums.{begin_of};
 ghost use Rattle.yuv_reports.specs.Texts.{EndsWith};
 
@@ -21,16 +21,16 @@ pub enum ReportForm {
     Json,
 }
 
-/// How far two frames are apart, or all frames of two streams.
+/// The measures of two frames, or of all frames of two streams.
 #[derive(Clone, Copy)]
 pub struct FrameMeasures {
     /// The mean squared errors.
     pub mse: FrameMeasure,
-    /// The peak signal-to-noise ratios, in decibels. Infinite where nothing differs.
+    /// The peak signal-to-noise ratios, in decibels. Infinite if no sample differs.
     pub psnr: FrameMeasure,
-    /// The structural similarities, where they are measured.
+    /// The structural similarities, if they are measured.
     pub ssim: Option<FrameMeasure>,
-    /// The sums of squared errors, where they are reported.
+    /// The sums of squared errors, if they are reported.
     pub sums: Option<PlaneSums>,
 }
 
@@ -43,16 +43,16 @@ pub enum Longer {
     Second,
 }
 
-/// What is reported of all frames.
+/// The report on all frames.
 #[derive(Clone, Copy)]
 pub struct Comparison {
-    /// How many frames were compared.
+    /// The number of frames that were compared.
     pub frames: u64,
-    /// The measures of all of them together: the mean of the errors, and its ratio.
+    /// The measures of all frames together: the mean of the errors, and the ratio of this mean.
     pub measures: FrameMeasures,
-    /// The number of the first frame that differs, and its first sample that does.
+    /// The number of the first frame that differs, and the first sample in it that differs.
     pub difference: Option<(u64, PixelDifference)>,
-    /// The stream that has more frames, where one has.
+    /// The stream that has more frames, if one has.
     pub longer: Option<Longer>,
 }
 
@@ -67,7 +67,7 @@ pub struct Report {
 }
 
 impl Report {
-    /// Returns a report of no frame. With `lists_frames` each frame is reported by itself.
+    /// Returns a report on no frames. If `lists_frames` is true, each frame is listed.
     pub fn new(form: ReportForm, lists_frames: bool) -> Self
         ensures form { result.form ≡ form }
         ensures lists_frames { result.lists_frames ≡ lists_frames }
@@ -82,11 +82,11 @@ impl Report {
         }
     }
 
-    /// Appends what stands before the first frame. `measures` says by its planes and its parts which columns there are.
+    /// Appends the beginning of the report. The planes and the measures in `measures` determine the columns of a table.
     ///
     /// # Errors
     ///
-    /// [`AllocError`] where there is no memory for the text.
+    /// Returns [`AllocError`] if there is not enough memory for the text.
     pub fn begin(&self, text: &mut String, measures: &FrameMeasures) -> Result<(), AllocError>
         ensures { OnOk result (string_bytes text.new ≡ string_bytes text.old
             ++ begin_of self.now.form (is_some measures.now.ssim) (is_some measures.now.sums)) }
@@ -98,11 +98,11 @@ impl Report {
         }
     }
 
-    /// Appends a frame of this number, where frames are listed, and counts it.
+    /// Counts a frame, and appends it with its number if frames are listed.
     ///
     /// # Errors
     ///
-    /// [`AllocError`] where there is no memory for the text.
+    /// Returns [`AllocError`] if there is not enough memory for the text.
     pub fn frame(
         &mut self,
         alloc: Global,
@@ -150,11 +150,11 @@ impl Report {
         }
     }
 
-    /// Appends what is said of all frames: nothing in a table, each row of which is a frame.
+    /// Appends the report on all frames. In a table it appends nothing, because each row is a frame.
     ///
     /// # Errors
     ///
-    /// [`AllocError`] where there is no memory for the text.
+    /// Returns [`AllocError`] if there is not enough memory for the text.
     pub fn end(&self, text: &mut String, found: &Comparison) -> Result<(), AllocError>
         ensures ended { OnOk result (EndsWith (end_of_report self.now.form found.now)
             (string_bytes text.new)) }
@@ -170,5 +170,43 @@ impl Report {
                 json::push_summary(text, found, &self.psnr, &self.ssim)
             }
         }
+    }
+
+    /// Appends the report on the frames before the one that cannot be read. In an object the member `error` states the reason. If there
+    /// is no frame, no line is appended, and the list of an object is empty.
+    ///
+    /// # Errors
+    ///
+    /// Returns [`AllocError`] if there is not enough memory for the text.
+    pub fn end_broken(
+        &self,
+        text: &mut String,
+        found: &Comparison,
+        error: &str,
+    ) -> Result<(), AllocError>
+        ensures csv { self.now.form ≡ ReportForm.Csv
+            → string_bytes text.new ≡ string_bytes text.old }
+        ensures nothing { self.now.form ≡ ReportForm.Lines → found.now.frames ≡ 0
+            → string_bytes text.new ≡ string_bytes text.old }
+        ensures ended { self.now.form ≡ ReportForm.Lines → found.now.frames ≢ 0
+            → OnOk result (EndsWith (end_of_report self.now.form found.now) (string_bytes text.new)) }
+        ensures closed { self.now.form ≡ ReportForm.Json → found.now.frames ≢ 0
+            → OnOk result (EndsWith (end_of_report self.now.form found.now) (string_bytes text.new)) }
+        ensures empty { self.now.form ≡ ReportForm.Json → found.now.frames ≡ 0
+            → OnOk result (EndsWith no_frames (string_bytes text.new)) }
+    {
+        if self.form == ReportForm::Lines && found.frames == 0 {
+            return Ok(());
+        }
+        if self.form != ReportForm::Json {
+            return self.end(text, found);
+        }
+        let lists = self.lists_frames && self.frames > 0;
+        text.push_str(if lists { "\n  ],\n" } else { "],\n" })?;
+        json::push_error(text, error)?;
+        if found.frames == 0 {
+            return json::push_no_frames(text);
+        }
+        json::push_summary(text, found, &self.psnr, &self.ssim)
     }
 }

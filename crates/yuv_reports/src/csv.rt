@@ -1,5 +1,5 @@
-//! Comma-separated values: a head, and a row for each frame. What a plane is missing is empty. What is said of all frames together
-//! stands in the other forms alone, so that each row has the same columns.
+//! Comma-separated values: a head, and a row for each frame. The cells of a missing plane are empty. Only the other forms report on all
+//! frames together, so that each row has the same columns.
 ghost use Rattle.std.specs.Prelude.{◌≡◌, ◌++◌, [], if◌then◌else◌, is_some, string_bytes, OnOk};
 ghost use Rattle.yuv_reports.specs.Frames.{AppendsFrame};
 ghost use Rattle.yuv_reports.specs.Sums.{head_row, row_end, sum_cell};
@@ -23,7 +23,7 @@ pub fn push_head(text: &mut String, measures: &FrameMeasures) -> Result<(), Allo
     text.push('\n')
 }
 
-/// Appends a text where a condition holds.
+/// Appends a text if a condition is true.
 fn push_where(text: &mut String, holds: bool, part: &str) -> Result<(), AllocError>
     ensures { OnOk result (string_bytes text.new
         ≡ string_bytes text.old ++ (if holds then part.now else [])) }
@@ -31,8 +31,8 @@ fn push_where(text: &mut String, holds: bool, part: &str) -> Result<(), AllocErr
     if holds { text.push_str(part) } else { Ok(()) }
 }
 
-/// Appends the row of a frame. Its values are put together in a text of their own, since nothing is known of one that a float
-/// was written to.
+/// Appends the row of a frame. The values are first collected in a separate text, because contracts do not describe a text after a
+/// float was written to it.
 pub fn push_frame(
     alloc: Global,
     text: &mut String,
@@ -60,7 +60,7 @@ fn push_measures(text: &mut String, measures: &FrameMeasures) -> Result<(), Allo
     end_row(text, &measures.sums)
 }
 
-/// Appends the sums of a row, where they are reported, and ends it.
+/// Appends the sums of a row, if they are reported, and ends the row.
 fn end_row(text: &mut String, sums: &Option<PlaneSums>) -> Result<(), AllocError>
     ensures { OnOk result (string_bytes text.new ≡ string_bytes text.old ++ row_end sums.now) }
 {
@@ -73,7 +73,7 @@ fn end_row(text: &mut String, sums: &Option<PlaneSums>) -> Result<(), AllocError
     text.push('\n')
 }
 
-/// Appends a comma, and a sum where there is one.
+/// Appends a comma, and a sum if there is one.
 fn push_sum_cell(text: &mut String, sum: Option<u128>) -> Result<(), AllocError>
     ensures { OnOk result (string_bytes text.new ≡ string_bytes text.old ++ sum_cell sum) }
 {

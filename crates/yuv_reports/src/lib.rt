@@ -1,8 +1,7 @@
-//! What the program `yuv` reports: lines for people, comma-separated values and JSON, as texts.
+//! The reports of the program `yuv`, as texts: lines for people, comma-separated values and JSON.
 //!
-//! Each function appends to a `String`, and fails only where there is no memory for it. Numbers for people have two decimals, or
-//! six for structural similarity, as ffmpeg's filters print them; numbers for programs are the shortest that are read back the
-//! same.
+//! Each function appends to a `String`, and fails only if there is not enough memory. Numbers for people have two decimals, or six for
+//! structural similarity, as in ffmpeg's filters. Numbers for programs have the fewest digits that are read back as the same number.
 #![tactic(auto)]
 
 mod comparison;

@@ -11,13 +11,13 @@ use std::alloc::{AllocError, Global};
 use v_frame_formats::{PixelDifference, PlaneSums};
 use v_frame_measures::FrameMeasure;
 
-/// What all planes and each of them are called in the line of a frame, and in a line of all frames.
+/// The names of all planes together and of each plane, in the line of a frame and in a line on all frames.
 const SHORT_NAMES: [&str; 4] = ["avg", "y", "u", "v"];
 
 const LONG_NAMES: [&str; 4] = ["all planes", "Y", "U", "V"];
 
-/// Appends the line of a frame: its errors and ratios in the form of ffmpeg's filter `psnr`, then what else is measured. Its
-/// values are put together in a text of their own, since nothing is known of one that a float was written to.
+/// Appends the line of a frame: errors and ratios in the form of ffmpeg's filter `psnr`, then other measures. The values are first
+/// collected in a separate text, because contracts do not describe a text after a float was written to it.
 pub fn push_frame(
     alloc: Global,
     text: &mut String,
@@ -103,7 +103,7 @@ fn push_sums(
     push_sum(text, v, sums.v)
 }
 
-/// Appends what is said of all frames: a line for all planes and one for each, and what else was found.
+/// Appends the report on all frames: a line for all planes and one for each plane, then the other results.
 pub fn push_comparison(text: &mut String, found: &Comparison) -> Result<(), AllocError>
     ensures { OnOk result (EndsWith (comparison_end found.now) (string_bytes text.new)) }
 {
@@ -118,7 +118,7 @@ pub fn push_comparison(text: &mut String, found: &Comparison) -> Result<(), Allo
     push_longer(text, found.longer)
 }
 
-/// Appends the line of the sums, where they are reported.
+/// Appends the line of the sums, if they are reported.
 fn push_sums_line(text: &mut String, sums: &Option<PlaneSums>) -> Result<(), AllocError>
     ensures { OnOk result (string_bytes text.new
         ≡ string_bytes text.old ++ sums_line sums.now) }
@@ -131,7 +131,7 @@ fn push_sums_line(text: &mut String, sums: &Option<PlaneSums>) -> Result<(), All
     text.push('\n')
 }
 
-/// Appends the line that says which stream has more frames, where one has.
+/// Appends the line that states which stream has more frames, if one has.
 fn push_longer(text: &mut String, longer: Option<Longer>) -> Result<(), AllocError>
     ensures { OnOk result (string_bytes text.new ≡ string_bytes text.old ++ longer_line longer) }
 {
@@ -142,7 +142,7 @@ fn push_longer(text: &mut String, longer: Option<Longer>) -> Result<(), AllocErr
     })
 }
 
-/// Appends the error and the ratio of all planes and of each.
+/// Appends the error and the ratio of all planes together and of each plane.
 fn push_planes(
     text: &mut String,
     mse: &FrameMeasure,
@@ -172,7 +172,7 @@ fn push_ssim(text: &mut String, ssim: &FrameMeasure) -> Result<(), AllocError> {
     text.push('\n')
 }
 
-/// Appends the line that says where the streams first differ, if they do.
+/// Appends the line that states the first difference of the streams, if there is one.
 fn push_difference(
     text: &mut String,
     difference: &Option<(u64, PixelDifference)>,

@@ -1,14 +1,14 @@
-//! What is reported of the samples of one stream: statistics, histograms and checksums.
+//! Reports on the samples of one stream: statistics, histograms and checksums.
 ghost use Rattle.std.specs.Prelude.{◌≡◌, ◌++◌, ◌∷◌, ◌<◌, [], string_bytes, OnOk};
 ghost use Rattle.std.specs.Char.{digit_char};
 ghost use Rattle.yuv_reports.specs.Histograms.{histogram_row, histogram_rows};
-ghost use Rattle.yuv_reports.specs.Samples.{checksum_word, checksums_line, chroma_words, statistics_end, statistics_front, sum_words, AppendsStatistics};
+ghost use Rattle.yuv_reports.specs.Samples.{above_said, checksum_word, checksums_line, chroma_words, statistics_end, statistics_front, sum_words, AppendsStatistics};
 
 use crate::planes::push_number;
 use std::alloc::{AllocError, Global};
 use v_frame_formats::Component;
 
-/// The values that samples of a plane have, over all frames.
+/// Statistics of the samples of a plane over all frames.
 #[derive(Clone, Copy)]
 pub struct SampleStatistics {
     /// The plane.
@@ -19,15 +19,19 @@ pub struct SampleStatistics {
     pub maximum: u16,
     /// The mean of the values.
     pub mean: f64,
-    /// How many samples are outside the nominal range of their depth.
+    /// The number of samples outside the nominal range, without samples above `most`.
     pub outside: u64,
+    /// The greatest value of the bit depth.
+    pub most: u16,
+    /// The number of samples above `most`.
+    pub above: u64,
 }
 
 /// Appends the line of a plane, with its mean in two decimals.
 ///
 /// # Errors
 ///
-/// [`AllocError`] where there is no memory for the text.
+/// Returns [`AllocError`] if there is not enough memory for the text.
 pub fn push_statistics(
     alloc: Global,
     text: &mut String,
@@ -44,7 +48,7 @@ pub fn push_statistics(
     push_outside(text, found)
 }
 
-/// Appends what stands in front of the mean.
+/// Appends the part of the line before the mean.
 fn push_extremes(text: &mut String, found: &SampleStatistics) -> Result<(), AllocError>
     ensures { OnOk result (string_bytes text.new
         ≡ string_bytes text.old ++ statistics_front found.now) }
@@ -54,20 +58,33 @@ fn push_extremes(text: &mut String, found: &SampleStatistics) -> Result<(), Allo
     write!(text, "{plane}: minimum {minimum}, maximum {maximum}, mean ")
 }
 
-/// Appends what stands after the mean.
+/// Appends the part of the line after the mean.
 fn push_outside(text: &mut String, found: &SampleStatistics) -> Result<(), AllocError>
     ensures { OnOk result (string_bytes text.new
         ≡ string_bytes text.old ++ statistics_end found.now) }
 {
     let outside = found.outside;
-    writeln!(text, ", outside the nominal range {outside}")
+    write!(text, ", outside the nominal range {outside}")?;
+    push_above(text, found.most, found.above)?;
+    text.push('\n')
+}
+
+/// Appends the number of samples above the greatest value of the bit depth, if there are any.
+fn push_above(text: &mut String, most: u16, above: u64) -> Result<(), AllocError>
+    ensures { OnOk result (string_bytes text.new
+        ≡ string_bytes text.old ++ above_said most above) }
+{
+    if above == 0 {
+        return Ok(());
+    }
+    write!(text, ", above {most}: {above}")
 }
 
 /// Appends a row `plane,value,count` for each value that occurs.
 ///
 /// # Errors
 ///
-/// [`AllocError`] where there is no memory for the text.
+/// Returns [`AllocError`] if there is not enough memory for the text.
 pub fn push_histogram(text: &mut String, plane: Component, counts: &[u64]) -> Result<(), AllocError>
     ensures { OnOk result (string_bytes text.new
         ≡ string_bytes text.old ++ histogram_rows plane 0 counts.now) }
@@ -78,7 +95,7 @@ pub fn push_histogram(text: &mut String, plane: Component, counts: &[u64]) -> Re
     Ok(())
 }
 
-/// Appends the row of a value, where it occurs.
+/// Appends the row of a value, if it occurs.
 fn push_row(text: &mut String, plane: Component, value: usize, count: u64) -> Result<(), AllocError>
     ensures { OnOk result (string_bytes text.new
         ≡ string_bytes text.old ++ histogram_row plane value count) }
@@ -90,20 +107,20 @@ fn push_row(text: &mut String, plane: Component, value: usize, count: u64) -> Re
     writeln!(text, "{plane},{value},{count}")
 }
 
-/// The CRC-32 of a frame's bytes, or of those of each plane.
+/// The CRC-32 of the bytes of a frame, or of each plane.
 #[derive(Clone, Copy)]
 pub enum Checksums {
-    /// That of the frame.
+    /// The checksum of the frame.
     Frame(u32),
-    /// Those of Y, and of U and V where they are there.
+    /// The checksums of Y, and of U and V if the frame has chroma.
     Planes(u32, Option<(u32, u32)>),
 }
 
-/// Appends the line of a frame, whose number is from 1: checksums as eight hexadecimal digits.
+/// Appends the line of a frame: its number, counted from 1, and its checksums of eight hexadecimal digits.
 ///
 /// # Errors
 ///
-/// [`AllocError`] where there is no memory for the text.
+/// Returns [`AllocError`] if there is not enough memory for the text.
 pub fn push_checksums(text: &mut String, frame: u64, sums: Checksums) -> Result<(), AllocError>
     ensures { OnOk result (string_bytes text.new
         ≡ string_bytes text.old ++ checksums_line frame sums) }
@@ -126,7 +143,7 @@ fn push_sums(text: &mut String, sums: Checksums) -> Result<(), AllocError>
     }
 }
 
-/// Appends those of U and V, where they are there.
+/// Appends the checksums of U and V, if there are any.
 fn push_chroma(text: &mut String, sums: Option<(u32, u32)>) -> Result<(), AllocError>
     ensures { OnOk result (string_bytes text.new
         ≡ string_bytes text.old ++ chroma_words sums) }
@@ -140,7 +157,7 @@ fn push_chroma(text: &mut String, sums: Option<(u32, u32)>) -> Result<(), AllocE
     }
 }
 
-/// What the hexadecimal digits of 32 bits are worth, the first digit first.
+/// The powers of 16 that the eight hexadecimal digits of 32 bits stand for, the first digit first.
 const PLACES: [u32; 8] = [
     0x1000_0000,
     0x100_0000,

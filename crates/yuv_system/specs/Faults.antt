@@ -1,12 +1,15 @@
 -- What faults are about.
-use Rattle.std.specs.Prelude.{ℕ, ◌≡◌, ◌+◌, ⊤, Option, Some, None}
+use Rattle.std.specs.Prelude.{ℕ, ◌≡◌, ◌≢◌, ◌+◌, ⊤, Option, Some, None}
 use Rattle.v_frame_streams.specs.Prelude.{EndsBefore, IsAtNextFrame, StopsAtFrame, Stream as TheStream, Unread}
 use Rattle.v_frame_streams.specs.declared.source.Source.{Source}
+use Rattle.v_frame_streams.specs.declared.error.Problem.{Problem}
+use Rattle.v_frame_streams.specs.declared.error.StreamError.{StreamError}
 use Rattle.v_frame_streams.specs.declared.stream.Place.{Place}
+use Rattle.v_frame_y4m.specs.declared.error.Y4mError.{Y4mError}
 use Rattle.yuv_pictures.specs.declared.error.PictureError.TheVariants.{NoPlane}
 use Rattle.yuv_system.specs.declared.fault.Fault.{Fault}
 use Rattle.yuv_system.specs.declared.fault.Fault.TheVariants.{Open, InputTwice, ReadAndWritten, NotAStream, NoBytes, NoPlanes, Header, Stream}
-use Rattle.yuv_system.specs.declared.fault.Fault.TheVariants.{Report, Create, Replace, Rewrite, Picture, Nothing, NoFrame, FrameZero, NoWindow}
+use Rattle.yuv_system.specs.declared.fault.Fault.TheVariants.{Report, Create, Replace, Rewrite, Target, Picture, Nothing, NoFrame, FrameZero, SwapsFields, NoWindow}
 
 -- the file that a fault is about, where it is about one
 abbrev pub place_of : Fault → Option Place
@@ -22,11 +25,13 @@ place_of (Report error) = Some error.place
 place_of (Create cause) = Some Place.Output
 place_of (Replace cause) = Some Place.Output
 place_of (Rewrite cause) = Some Place.Output
+place_of (Target written error) = Some Place.Output
 place_of (Picture NoPlane) = Some Place.First
 place_of (Picture error) = Some Place.Output
 place_of (Nothing place taken) = Some place
 place_of (NoFrame place frames) = Some place
 place_of FrameZero = None
+place_of (SwapsFields place from nearest) = Some place
 place_of (NoWindow place) = Some place
 
 -- Why the frame behind so many was not read of a stream. It has no more frames, and so many were
@@ -37,6 +42,11 @@ StopsBehind before stream place start left begun after (NoFrame which found) =
 StopsBehind before stream place start left begun after (Stream error) =
     StopsAtFrame stream.container stream.frame_len start left (before + 1) begun after error.problem
 StopsBehind before stream place start left begun after _ = ⊥
+
+-- a frame of a stream that is read cannot be read
+abbrev pub IsBroken : StreamError → Type 0
+IsBroken error =
+    (error.place ≢ Place.Output) × ((cause : Y4mError) × (error.problem ≡ Problem.Stream cause))
 
 -- an error of a stream comes at its next frame, and has the cause that its reader reported last
 abbrev pub IsAtTheFrame : {R : Type 0} → Source R → Fault → Type 0

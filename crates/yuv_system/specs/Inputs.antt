@@ -1,5 +1,5 @@
 -- What is read: a stream with a header line, or raw video as the options say.
-use Rattle.std.specs.Prelude.{ℕ, ◌≡◌, ◌/◌, if◌then◌else◌, nat_lt, List, [], Option, Some, None, IfSome}
+use Rattle.std.specs.Prelude.{ℕ, ◌≡◌, ◌/◌, if◌then◌else◌, nat_lt, Bool, true, false, codes, List, [], ◌∷◌, Option, Some, None, IfSome}
 use Rattle.std.specs.Borrow.{MutBor}
 use Rattle.v_frame_y4m.specs.declared.header.StreamHeader.{StreamHeader}
 use Rattle.v_frame_streams.specs.Conversions.{layout_in}
@@ -13,7 +13,12 @@ use Rattle.yuv_system.specs.declared.input_file.InputFile.{InputFile}
 use Rattle.v_frame_formats.specs.Formats.{format_color}
 use Rattle.yuv_words.specs.declared.command.RawVideo.{RawVideo}
 
--- the header that raw video of this size and format would have
+-- the extension that states full range, as in ffmpeg's streams
+abbrev pub range_extensions : Bool → List (List ℕ)
+range_extensions true = codes "COLORRANGE=FULL" ∷ []
+range_extensions false = []
+
+-- the header that a stream of this size and format would have
 abbrev pub header_of_raw : RawVideo → StreamHeader
 header_of_raw video =
     record {
@@ -23,7 +28,7 @@ header_of_raw video =
       interlacing = None;
       pixel_aspect = None;
       color = format_color video.format;
-      extensions = [];
+      extensions = range_extensions video.full_range;
     }
 
 -- a stream of this file was opened, of which no frame was read yet

@@ -1,4 +1,5 @@
 pub mod Faults
+pub mod Headers
 pub mod InputFiles
 pub mod Inputs
 pub mod Nothing
@@ -6,3 +7,4 @@ pub mod Options
 pub mod Outputs
 pub mod ProgressLines
 pub mod Status
+pub mod WorkedHeaders

@@ -7,23 +7,25 @@ ghost use Rattle.v_frame_streams.specs.Conversions.{layout_in};
 use crate::fault::Fault;
 use crate::input_file::InputFile;
 use crate::system::System;
-use std::alloc::Global;
+use std::alloc::{AllocError, Global};
 use std::io::{self, Read};
+use std::rt::Files;
 use std::time::Clock;
+use v_frame::sequence::Sequence;
 use v_frame_formats::VideoFormat;
 use v_frame_semi_planar::SemiPlanarFormat;
 use v_frame_streams::{Container, Problem, Source, StreamError};
 use v_frame_y4m::{StreamHeader, header_line};
-use yuv_files::{LaxHeader, shown_name, write_message};
+use yuv_files::{LaxHeader, is_stream_file, shown_name, write_message};
 use yuv_words::RawVideo;
 
-/// Reads the header of a file that is open, or takes that of headerless raw video. Where the header line is not strict, a
-/// message says what it is read as.
+/// Reads the header of an open file, or takes the header of headerless video. If the header line is not strict, a warning states how it
+/// is read. If headerless video begins as a YUV4MPEG2 stream does, a warning says so.
 ///
 /// # Errors
 ///
 /// [`Fault::NoBytes`] and [`Fault::NotAStream`] where no stream begins there, and [`Fault::Header`] where its header can't be read.
-pub fn begin<'f, H: AllocGlobal + Clock, F: Read, I: Read, O, E: io::Write>(
+pub fn begin<'f, H: Files + AllocGlobal + Clock, F: Read, I: Read, O, E: io::Write>(
     system: &mut System<'_, H, I, O, E>,
     name: &str,
     file: &'f mut InputFile<F, I>,
@@ -37,6 +39,13 @@ pub fn begin<'f, H: AllocGlobal + Clock, F: Read, I: Read, O, E: io::Write>(
     let alloc = system.rt.alloc();
     let place = file.place;
     let source = begin_stream(alloc, file, raw)?;
+    if raw.is_some() && is_stream_file(system.rt, name) {
+        write_message(
+            system.progress.out(),
+            Some(shown_name(name)),
+            &"the file begins as a YUV4MPEG2 stream; without --raw its header would be read",
+        );
+    }
     if source.is_lax() {
         let Ok(line) = header_line(alloc, source.header()) else {
             return Err(Fault::Header(StreamError::at_start(place, Problem::OutOfMemory)));
@@ -75,7 +84,9 @@ fn begin_raw<F: Read, I: Read>(
     ensures { IfOk result (OpensAsRaw (bytes_of_input F.remaining I.remaining) file.entry.now raw) }
 {
     let place = file.place;
-    let header = raw_header(alloc, &raw);
+    let Ok(header) = raw_header(alloc, &raw) else {
+        return Err(Fault::Header(StreamError::at_start(place, Problem::OutOfMemory)));
+    };
     match Source::raw(alloc, place, header, layout_of(raw.format), file) {
         Ok(source) => Ok(source),
         Err(error) => Err(Fault::Header(error)),
@@ -116,19 +127,24 @@ fn layout_of(format: VideoFormat) -> Option<SemiPlanarFormat>
     }
 }
 
-/// Returns the header that raw video of this size and format would have.
-fn raw_header(alloc: Global, raw: &RawVideo) -> StreamHeader
-    ensures { result ≡ header_of_raw raw.now }
+/// Returns the header that a stream of this size and format would have. If samples have full range, an extension states it, as in
+/// ffmpeg's streams.
+fn raw_header(alloc: Global, raw: &RawVideo) -> Result<StreamHeader, AllocError>
+    ensures { IfOk result (λ header. header ≡ header_of_raw raw.now) }
 {
-    StreamHeader {
+    let mut extensions = Vec::new(alloc);
+    if raw.full_range {
+        extensions.push(Sequence::from_slice(alloc, b"COLORRANGE=FULL")?)?;
+    }
+    Ok(StreamHeader {
         width: raw.width,
         height: raw.height,
         frame_rate: raw.rate,
         interlacing: None,
         pixel_aspect: None,
         color: raw.format.color(),
-        extensions: Vec::new(alloc).into(),
-    }
+        extensions: extensions.into(),
+    })
 }
 
 /// Returns how many frames a file of this length has, where the lines in front of them are the shortest.

@@ -1,16 +1,18 @@
-//! How the program ended.
+//! Exit statuses.
 ghost use Rattle.std.specs.Prelude.{◌≡◌};
 ghost use Rattle.yuv_system.specs.Status.{status_code};
 
-/// How the program ended.
+/// The exit status of the program.
 #[derive(Clone, Copy)]
 pub enum Status {
-    /// All was done, and what was compared shows the same.
+    /// The command succeeded. If it compares, it found no difference.
     Same,
-    /// What was compared differs.
+    /// The command found a difference.
     Different,
-    /// Something failed.
+    /// The command failed.
     Failed,
+    /// The reader of the output closed it. The status is that of a program that the signal PIPE ends, as shells report it.
+    Closed,
 }
 
 impl Status {
@@ -22,6 +24,7 @@ impl Status {
             Status::Same => 0,
             Status::Different => 1,
             Status::Failed => 2,
+            Status::Closed => 141,
         }
     }
 }

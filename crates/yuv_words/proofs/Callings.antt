@@ -7,7 +7,7 @@ use Rattle.std.specs.Borrow.{Bor}
 use Rattle.std.specs.Str.{bytes_eq}
 use Rattle.std.proofs.lemmas.List.{append-nil}
 use mathlib.Core.Path.{fun_ext}
-use Rattle.yuv_words.specs.Calls.{topic_words, version_word, IsCall, IsHelpWord, IsWrittenAs}
+use Rattle.yuv_words.specs.Calls.{formats_word, IsCall, IsHelpWord, IsTopic, IsVersionWord, IsWrittenAs, NamesTopic}
 use Rattle.yuv_words.specs.Commands.{Says}
 use Rattle.yuv_words.specs.Faults.{HasFault, HasFileFault, HasLateFile, HasValueFault}
 use Rattle.yuv_words.specs.Names.{command_text, file_count}
@@ -16,6 +16,8 @@ use Rattle.yuv_words.specs.Words.{after_end, before_end, files_of, spelled, valu
 use Rattle.yuv_words.specs.declared.command.Command.{Command}
 use Rattle.yuv_words.specs.declared.command.Command.TheVariants as command
 use Rattle.yuv_words.specs.declared.command.CommandName.{CommandName}
+use Rattle.yuv_words.specs.declared.command.Topic.{Topic}
+use Rattle.yuv_words.specs.declared.command.Topic.TheVariants as about
 use Rattle.yuv_words.specs.declared.error.UsageError.{UsageError}
 use Rattle.yuv_words.specs.declared.files.Files.{Files}
 use Rattle.yuv_words.specs.declared.option_name.OptionName.{OptionName}
@@ -84,10 +86,13 @@ module _ (k : CommandName) (words : List (List ℕ)) (reading : Reading) (read :
           (subst (λ (given : OptionName → List (List ℕ)). HasValueFault given e) given_is fault)),
     )
 
--- which of the words that are no names of commands a text is, for the proof alone
+-- 1 for a word that asks for help, 2 for one that asks for the version, 3 for the list of formats, and
+-- else 0; for proofs only
 abbrev rank : List ℕ → ℕ
 rank text = cond (bytes_eq text (codes "help")) 1 (cond (bytes_eq text (codes "--help")) 1
-    (cond (bytes_eq text (codes "-h")) 1 (cond (bytes_eq text (codes "--version")) 2 0)))
+    (cond (bytes_eq text (codes "-h")) 1 (cond (bytes_eq text (codes "version")) 2
+    (cond (bytes_eq text (codes "--version")) 2 (cond (bytes_eq text (codes "-V")) 2
+    (cond (bytes_eq text (codes "formats")) 3 0))))))
 
 command_rank : (k : CommandName) → rank (command_text k) ≡ 0
 command_rank k = eqb-true _ 0 (each_command (λ j. eqb (rank (command_text j)) 0) refl k)
@@ -97,14 +102,19 @@ help_rank word (inl is) = ap rank is
 help_rank word (inr (inl is)) = ap rank is
 help_rank word (inr (inr is)) = ap rank is
 
+version_rank : (word : List ℕ) → IsVersionWord word → rank word ≡ 2
+version_rank word (inl is) = ap rank is
+version_rank word (inr (inl is)) = ap rank is
+version_rank word (inr (inr is)) = ap rank is
+
 no_help_word : (k : CommandName) (word : List ℕ) → word ≡ command_text k → IsHelpWord word → ⊥
 no_help_word k word is help = omega (arith, sym (ap rank is ∙ command_rank k), help_rank word help)
 
-no_version_word : (k : CommandName) → version_word ≡ command_text k → ⊥
-no_version_word k is = omega (arith, ap rank is ∙ command_rank k)
+no_version_word : (k : CommandName) (word : List ℕ) → word ≡ command_text k → IsVersionWord word → ⊥
+no_version_word k word is version = omega (arith, sym (ap rank is ∙ command_rank k), version_rank word version)
 
-help_no_version : (word : List ℕ) → IsHelpWord word → word ≡ version_word → ⊥
-help_no_version word help is = omega (arith, sym (ap rank is), help_rank word help)
+help_no_version : (word : List ℕ) → IsHelpWord word → IsVersionWord word → ⊥
+help_no_version word help version = omega (arith, sym (version_rank word version), help_rank word help)
 
 first_of : (x y : List ℕ) (xs ys : List (List ℕ)) → x ∷ xs ≡ y ∷ ys → x ≡ y
 first_of x y xs ys is = ap (λ (zs : List (List ℕ)). get_or zs 0 x) is
@@ -123,15 +133,39 @@ module _ (k : CommandName) (words rest : List (List ℕ)) (is : words ≡ comman
 
   pub only_calls : ((c : Command) → ¬ (IsCall k c rest)) → (c : Command) → ¬ (IsWrittenAs words c)
   only_calls none (command.Help topic) written =
-      no_help_word k written.0 (first_of _ _ _ rest (sym written.2 ∙ is)) written.1
-  only_calls none command.Version written = no_version_word k (first_of _ _ [] rest (sym written ∙ is))
+      no_help_word k written.0 (first_of _ _ written.1 rest (sym written.3 ∙ is)) written.2
+  only_calls none command.Version written =
+      no_version_word k written.0 (first_of _ _ [] rest (sym written.2 ∙ is)) written.1
   only_calls none (command.Call _) written =
       none _ (named_call _ written.name written.rest written.named written.call)
 
 -- a word for help begins no other call than that for help
 pub only_help : (word : List ℕ) (rest : List (List ℕ)) → ((k : CommandName) → word ≢ command_text k) → IsHelpWord word
-    → ((topic : Option CommandName) → rest ≢ topic_words topic) → (c : Command) → ¬ (IsWrittenAs (word ∷ rest) c)
-only_help word rest no_name help none (command.Help topic) written = none topic (rest_of word _ rest _ written.2)
-only_help word rest no_name help none command.Version written = help_no_version word help (first_of word _ rest [] written)
+    → ((topic : Topic) → ¬ (IsTopic topic rest)) → (c : Command) → ¬ (IsWrittenAs (word ∷ rest) c)
+only_help word rest no_name help none (command.Help topic) written =
+    none topic (subst (IsTopic topic) (sym (rest_of word written.0 rest written.1 written.3)) written.4)
+only_help word rest no_name help none command.Version written =
+    help_no_version word help (subst IsVersionWord (sym (first_of word written.0 rest [] written.2)) written.1)
 only_help word rest no_name help none (command.Call _) written =
     no_name written.name (first_of word _ rest written.rest written.named)
+
+-- a word that names no topic
+pub no_topic : (word : List ℕ) → ((k : CommandName) → word ≢ command_text k) → word ≢ formats_word → ¬ (IsHelpWord word)
+    → ¬ (IsVersionWord word) → (topic : Topic) → ¬ (NamesTopic topic word)
+no_topic word no_name no_list no_help no_version about.Program (inl help) = no_help help
+no_topic word no_name no_list no_help no_version about.Program (inr version) = no_version version
+no_topic word no_name no_list no_help no_version (about.Command k) is = no_name k is
+no_topic word no_name no_list no_help no_version about.Formats is = no_list is
+
+-- one word that names no topic is no topic, and neither are two words
+pub one_word : (words : List (List ℕ)) (word : List ℕ) → words ≡ word ∷ [] → ((topic : Topic) → ¬ (NamesTopic topic word))
+    → (topic : Topic) → ¬ (IsTopic topic words)
+one_word words word is none topic (inl nothing) = search (rules, sym is ∙ nothing.0)
+one_word words word is none topic (inr named) =
+    none topic (subst (NamesTopic topic) (first_of named.0 word [] [] (sym named.1 ∙ is)) named.2)
+
+pub two_words : (words rest : List (List ℕ)) (one two : List ℕ) → words ≡ one ∷ two ∷ rest → (topic : Topic)
+    → ¬ (IsTopic topic words)
+two_words words rest one two is topic (inl nothing) = search (rules, sym is ∙ nothing.0)
+two_words words rest one two is topic (inr named) =
+    search (rules, rest_of named.0 one [] (two ∷ rest) (sym named.1 ∙ is))

@@ -1,3 +1,4 @@
+pub mod Asked
 pub mod Callings
 pub mod Cuts
 pub mod Heads

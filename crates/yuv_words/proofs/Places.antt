@@ -63,7 +63,7 @@ module _ (D : Declared) where
           (sym (ap (λ (k : ℕ). get_or all k w) e ∙ stands a w))) in
           omega (arith, other, low)
 
-pub option_below : (n : OptionName) → option_place n < 26
+pub option_below : (n : OptionName) → option_place n < 28
 option_below = below option_type tt OPTIONS refl refl
 
 pub each_option : (p : OptionName → Bool) → list_all p OPTIONS ≡ true → (n : OptionName) → p n ≡ true

@@ -23,7 +23,7 @@ texts_split xs i d within =
 pub texts_after : (xs : List (Bor (List ℕ))) (i : ℕ) → texts_of (drop 1 (drop i xs)) ≡ drop (i + 1) (texts_of xs)
 texts_after xs i = ap texts_of (drop-drop 1 i xs) ∙ sym (drop-map (λ (x : Bor (List ℕ)). x.now) (i + 1) xs)
 
-text_at : (xs : List (Bor (List ℕ))) (i : ℕ) (d : Bor (List ℕ)) → i < length xs → get_or (texts_of xs) i [] ≡ (get_or xs i d).now
+pub text_at : (xs : List (Bor (List ℕ))) (i : ℕ) (d : Bor (List ℕ)) → i < length xs → get_or (texts_of xs) i [] ≡ (get_or xs i d).now
 text_at xs i d within = get_or-map (λ (x : Bor (List ℕ)). x.now) xs i d [] within
 
 texts_long : (xs : List (Bor (List ℕ))) → length (texts_of xs) ≡ length xs

@@ -53,6 +53,8 @@ module _ (given : OptionName → List (List ℕ)) where
     pub histogram : length (given option.Histogram) ≡ times o.histogram
     pub raw_output : length (given option.RawOutput) ≡ times o.raw_output
     pub progress : length (given option.Progress) ≡ times o.progress
+    pub force : length (given option.Force) ≡ times o.force
+    pub salvage : length (given option.Salvage) ≡ times o.salvage
     pub skip : SaysValue IsNumber o.skip (given option.Skip)
     pub skip_second : SaysValue IsNumber o.skip_second (given option.SkipSecond)
     pub count : SaysValue IsNumber o.count (given option.Count)

@@ -1,6 +1,6 @@
 -- What is wrong with words that ask for nothing.
 use Rattle.std.specs.Prelude.{ℕ, ◌≡◌, ◌≢◌, ◌<◌, ◌⊎◌, ◌++◌, ⊤, All, Contains, List, [], ◌∷◌, false, true, length}
-use Rattle.yuv_words.specs.Calls.{version_word, IsHelpWord}
+use Rattle.yuv_words.specs.Calls.{IsHelpWord, IsVersionWord, NamesTopic}
 use Rattle.v_frame_formats.specs.Formats.{IsFormat}
 use Rattle.yuv_words.specs.Names.{command_text, file_count, option_text, options_of, takes_value}
 use Rattle.yuv_words.specs.Values.{IsColorRange, IsGain, IsMatrix, IsNumber, IsPlane, IsRatio, IsRaw}
@@ -8,6 +8,7 @@ use Rattle.yuv_words.specs.Values.{IsRectangle}
 use Rattle.yuv_words.specs.Words.{after_end, before_end, files_of, joined_text, spelled, values_of, IsFileWord}
 use Rattle.yuv_words.specs.Words.{IsToken, Token}
 use Rattle.yuv_words.specs.declared.command.CommandName.{CommandName}
+use Rattle.yuv_words.specs.declared.command.Topic.{Topic}
 use Rattle.yuv_words.specs.declared.error.UsageError.{UsageError}
 use Rattle.yuv_words.specs.declared.error.UsageError.TheVariants as fault
 use Rattle.yuv_words.specs.declared.option_name.OptionName.{OptionName}
@@ -107,12 +108,12 @@ HasFault name words error =
 pub record IsNoCommand (word : List ℕ) : Type 0 where
   pub no_name : (name : CommandName) → word ≢ command_text name
   pub no_help : ¬ (IsHelpWord word)
-  pub no_version : word ≢ version_word
+  pub no_version : ¬ (IsVersionWord word)
 
 -- what is wrong with the words behind one that asks for help
 abbrev pub HasTopicFault : List (List ℕ) → UsageError → Type 0
 HasTopicFault words (fault.UnknownCommand word) =
-    (words ≡ word.now ∷ []) × ((name : CommandName) → word.now ≢ command_text name)
+    (words ≡ word.now ∷ []) × ((topic : Topic) → ¬ (NamesTopic topic word.now))
 HasTopicFault words (fault.ExtraWord word) =
     (topic : List ℕ) × (rest : List (List ℕ)) × (words ≡ topic ∷ word.now ∷ rest)
 HasTopicFault words _ = ⊥
@@ -132,5 +133,5 @@ IsRefusedFor words error =
     ⊎ ((first : List ℕ) × (rest : List (List ℕ)) × (words ≡ first ∷ rest)
     × (IsUnknownCommand first error
     ⊎ ((IsHelpWord first × HasTopicFault rest error)
-    ⊎ (((first ≡ version_word) × HasExtraWord rest error)
+    ⊎ ((IsVersionWord first × HasExtraWord rest error)
     ⊎ ((name : CommandName) × (first ≡ command_text name) × HasFault name rest error)))))

@@ -5,7 +5,8 @@ use Rattle.yuv_words.specs.declared.command.CommandName.TheVariants.{Info, Compa
 use Rattle.yuv_words.specs.declared.option_name.OptionName.{OptionName}
 use Rattle.yuv_words.specs.declared.option_name.OptionName.TheVariants.{Header, Ssim, Frames, Exact, Csv, Json}
 use Rattle.yuv_words.specs.declared.option_name.OptionName.TheVariants.{Half, Planes, Histogram, RawOutput}
-use Rattle.yuv_words.specs.declared.option_name.OptionName.TheVariants.{Progress, Raw, RawSecond, MaxPixels}
+use Rattle.yuv_words.specs.declared.option_name.OptionName.TheVariants.{Progress, Force, Salvage}
+use Rattle.yuv_words.specs.declared.option_name.OptionName.TheVariants.{Raw, RawSecond, MaxPixels}
 use Rattle.yuv_words.specs.declared.option_name.OptionName.TheVariants.{Skip, SkipSecond, Count, Crop, Format}
 use Rattle.yuv_words.specs.declared.option_name.OptionName.TheVariants.{Rate, Aspect, Frame, Matrix, Range}
 use Rattle.yuv_words.specs.declared.option_name.OptionName.TheVariants.{Plane, Gain}
@@ -32,6 +33,8 @@ option_text Planes = codes "--planes"
 option_text Histogram = codes "--histogram"
 option_text RawOutput = codes "--raw-output"
 option_text Progress = codes "--progress"
+option_text Force = codes "--force"
+option_text Salvage = codes "--salvage"
 option_text Raw = codes "--raw"
 option_text RawSecond = codes "--raw-second"
 option_text MaxPixels = codes "--max-pixels"
@@ -61,6 +64,8 @@ takes_value Planes = false
 takes_value Histogram = false
 takes_value RawOutput = false
 takes_value Progress = false
+takes_value Force = false
+takes_value Salvage = false
 takes_value _ = true
 
 abbrev pub options_of : CommandName → List OptionName
@@ -69,13 +74,14 @@ options_of Compare =
     Ssim ∷ Frames ∷ Exact ∷ Csv ∷ Json ∷ Skip ∷ SkipSecond ∷ Count ∷ Raw ∷ RawSecond ∷ MaxPixels
     ∷ Progress ∷ []
 options_of Copy =
-    Skip ∷ Count ∷ Crop ∷ Half ∷ Format ∷ Rate ∷ Aspect ∷ Raw ∷ RawOutput ∷ MaxPixels ∷ Progress
-    ∷ []
+    Skip ∷ Count ∷ Crop ∷ Half ∷ Format ∷ Rate ∷ Aspect ∷ Raw ∷ RawOutput ∷ Salvage ∷ Force
+    ∷ MaxPixels ∷ Progress ∷ []
 options_of Sum = Planes ∷ Skip ∷ Count ∷ Raw ∷ MaxPixels ∷ Progress ∷ []
-options_of Stats = Histogram ∷ Skip ∷ Count ∷ Raw ∷ MaxPixels ∷ Progress ∷ []
-options_of Show = Frame ∷ Matrix ∷ Range ∷ Plane ∷ Crop ∷ Raw ∷ MaxPixels ∷ []
-options_of Diff = Frame ∷ Gain ∷ Raw ∷ RawSecond ∷ MaxPixels ∷ []
-options_of Plot = Skip ∷ SkipSecond ∷ Count ∷ Raw ∷ RawSecond ∷ MaxPixels ∷ Progress ∷ []
+options_of Stats = Histogram ∷ Range ∷ Skip ∷ Count ∷ Raw ∷ MaxPixels ∷ Progress ∷ []
+options_of Show = Frame ∷ Matrix ∷ Range ∷ Plane ∷ Crop ∷ Raw ∷ Force ∷ MaxPixels ∷ []
+options_of Diff = Frame ∷ Gain ∷ Raw ∷ RawSecond ∷ Force ∷ MaxPixels ∷ []
+options_of Plot =
+    Skip ∷ SkipSecond ∷ Count ∷ Raw ∷ RawSecond ∷ Force ∷ MaxPixels ∷ Progress ∷ []
 
 -- how many files the command takes
 abbrev pub file_count : CommandName → ℕ

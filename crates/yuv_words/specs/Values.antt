@@ -1,20 +1,20 @@
 -- The values of options, and how each is spelled.
-use Rattle.std.specs.Prelude.{ℕ, ◌≡◌, ◌<◌, ◌^◌, ◌++◌, List, [], ◌∷◌, codes, decimal, refl, IfSome, Option, Some, None}
+use Rattle.std.specs.Prelude.{ℕ, ◌≡◌, ◌<◌, ◌^◌, ◌++◌, ◌⊎◌, Bool, false, true, List, [], ◌∷◌, codes, decimal, refl, Option, Some, None}
 use Rattle.v_frame_rgb.specs.declared.standard.ColorRange.{ColorRange}
 use Rattle.v_frame_rgb.specs.declared.standard.ColorRange.TheVariants.{Limited, Full}
 use Rattle.v_frame_rgb.specs.declared.standard.Standard.{Standard}
 use Rattle.v_frame_rgb.specs.declared.standard.Standard.TheVariants.{Bt601, Bt709, Bt2020}
-use Rattle.v_frame_y4m.specs.Header.{ratio_text, FitsRatio}
+use Rattle.v_frame_y4m.specs.Header.{FitsRatio}
 use Rattle.v_frame_y4m.specs.declared.header.Ratio.{Ratio}
-use Rattle.v_frame_formats.specs.Formats.{IsFormat}
+use Rattle.v_frame_formats.specs.Formats.{full_range_format, IsFormat}
 use Rattle.v_frame_formats.specs.declared.component.Component.{Component}
 use Rattle.v_frame_formats.specs.declared.component.Component.TheVariants.{Y, U, V}
 use Rattle.yuv_words.specs.declared.command.RawVideo.{RawVideo}
 use Rattle.v_frame_formats.specs.declared.rectangle.Rectangle.{Rectangle}
 use Rattle.v_frame_formats.specs.declared.format.VideoFormat.{VideoFormat}
 
--- what stands between numbers: a comma in a rectangle, an x in a size; a colon before a format, and
--- an at sign before a rate
+-- the marks between numbers: a comma in a rectangle, an x in a size, a colon or a slash in a ratio; a
+-- colon precedes a format, and an at sign a rate
 abbrev pub comma : ℕ
 comma = 44
 
@@ -27,7 +27,10 @@ at_sign = 64
 abbrev pub letter_x : ℕ
 letter_x = 120
 
-marks_by_name : codes ",:@x" ≡ comma ∷ colon ∷ at_sign ∷ letter_x ∷ []
+abbrev pub slash : ℕ
+slash = 47
+
+marks_by_name : codes ",:@x/" ≡ comma ∷ colon ∷ at_sign ∷ letter_x ∷ slash ∷ []
 marks_by_name = refl
 
 -- numbers are decimal, without a sign and without leading zeros
@@ -35,10 +38,20 @@ abbrev pub IsNumber : ℕ → List ℕ → Type 0
 IsNumber n text = (text ≡ decimal n) × (n < 2 ^ 64)
 
 abbrev pub IsGain : ℕ → List ℕ → Type 0
-IsGain n text = (text ≡ decimal n) × (n < 2 ^ 16)
+IsGain n text = (text ≡ decimal n) × (0 < n) × (n < 2 ^ 16)
 
+-- two numbers above 0 with a mark between them
+abbrev pub IsRatioWith : ℕ → Ratio → List ℕ → Type 0
+IsRatioWith mark ratio text =
+    (text ≡ decimal ratio.numerator ++ mark ∷ decimal ratio.denominator) × FitsRatio ratio
+    × (0 < ratio.numerator) × (0 < ratio.denominator)
+
+-- N:D, N/D or N, where N and D are above 0
 abbrev pub IsRatio : Ratio → List ℕ → Type 0
-IsRatio ratio text = (text ≡ ratio_text ratio) × FitsRatio ratio
+IsRatio ratio text =
+    IsRatioWith colon ratio text
+    ⊎ (IsRatioWith slash ratio text
+    ⊎ (IsNumber ratio.numerator text × (0 < ratio.numerator) × (ratio.denominator ≡ 1)))
 
 -- X,Y,WIDTH,HEIGHT
 abbrev pub rectangle_text : Rectangle → List ℕ
@@ -58,23 +71,28 @@ SpellsRectangle r text = (text ≡ rectangle_text r) × FitsRectangle r
 abbrev pub IsRectangle : Rectangle → List ℕ → Type 0
 IsRectangle r text = SpellsRectangle r text × (0 < r.width) × (0 < r.height)
 
--- @N:D
-abbrev pub rate_part : Option Ratio → List ℕ
-rate_part None = []
-rate_part (Some rate) = at_sign ∷ ratio_text rate
+-- a name of the format; those that state full range are other names
+abbrev pub NamesRaw : VideoFormat → Bool → List ℕ → Type 0
+NamesRaw format false name = IsFormat format name
+NamesRaw format true name = full_range_format name ≡ Some format
 
--- FORMAT, and its rate where it has one
-pub record SpellsFormat (format : VideoFormat) (rate : Option Ratio) (text : List ℕ) : Type 0 where
+-- a name, and after it an at sign and the rate, if there is one
+abbrev pub IsRated : List ℕ → Option Ratio → List ℕ → Type 0
+IsRated name None text = text ≡ name
+IsRated name (Some rate) text =
+    (rest : List ℕ) × (text ≡ name ++ at_sign ∷ rest) × IsRatio rate rest
+
+-- FORMAT or FORMAT@RATE
+pub record SpellsFormat (format : VideoFormat) (full : Bool) (rate : Option Ratio) (text : List ℕ) : Type 0 where
   pub name : List ℕ
-  pub named : IsFormat format name
-  pub spelled : text ≡ name ++ rate_part rate
-  pub fits : IfSome rate FitsRatio
+  pub named : NamesRaw format full name
+  pub rated : IsRated name rate text
 
 -- WIDTHxHEIGHT:, and the format; the size may be 0
 pub record SpellsRaw (raw : RawVideo) (text : List ℕ) : Type 0 where
   pub rest : List ℕ
   pub spelled : text ≡ decimal raw.width ++ letter_x ∷ (decimal raw.height ++ colon ∷ rest)
-  pub format : SpellsFormat raw.format raw.rate rest
+  pub format : SpellsFormat raw.format raw.full_range raw.rate rest
   pub width : raw.width < 2 ^ 64
   pub height : raw.height < 2 ^ 64
 

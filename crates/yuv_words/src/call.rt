@@ -1,25 +1,25 @@
 //! Commands from the words of a call.
-ghost use Rattle.std.specs.Prelude.{◌≡◌, ◌≢◌, ◌≤◌, ◌↔◌, ◌∷◌, length, IfErr, IfOk, IsSome, IsTrue, Option};
-ghost use Rattle.yuv_words.specs.Calls.{topic_words, version_word, AsksHelp, IsCall, IsHelpOption, IsHelpWord, IsWrittenAs};
+ghost use Rattle.std.specs.Prelude.{◌≡◌, ◌≢◌, ◌≤◌, ◌↔◌, ◌∷◌, length, IfErr, IfOk, IsSome, IsTrue, MatchOption};
+ghost use Rattle.yuv_words.specs.Calls.{is_help_option as is_help, formats_word, AsksHelp, IsCall, IsHelpWord, IsTopic, IsVersionWord, IsWrittenAs, NamesTopic};
 ghost use Rattle.yuv_words.specs.Faults.{HasFault, HasTopicFault, IsRefusedFor};
 ghost use Rattle.yuv_words.specs.Names.{command_text, file_count};
 ghost use Rattle.yuv_words.specs.Reading.{file_names, HasSaidFault, IsSaid};
 ghost use Rattle.yuv_words.specs.Words.{texts_of};
 ghost use Rattle.yuv_words.specs.declared.command.Command.{Command as TheCommand};
 ghost use Rattle.yuv_words.specs.declared.command.CommandName.{CommandName as TheName};
+ghost use Rattle.yuv_words.specs.declared.command.Topic.{Topic as TheTopic};
 
-use crate::command::{Call, Command, CommandName};
+use crate::command::{Call, Command, CommandName, Topic};
 use crate::error::UsageError;
 use crate::files::Files;
 use crate::given::Given;
 use crate::reading::{cut_at_end, read_words};
 
-/// Reads the words of a call, without the program's own name.
+/// Reads the words of a call, without the name of the program.
 ///
 /// # Errors
 ///
-/// The first of [`UsageError`] that is met: what is wrong with the command, with a word from the left, with the files, and
-/// with the values of options.
+/// Returns the first [`UsageError`] in this order: the command, the words from left to right, the files, the values of options.
 pub fn read_command<'a>(words: &[&'a str]) -> Result<Command<'a>, UsageError<'a>>
     ensures said { IfOk result (IsWrittenAs (texts_of words.now)) }
     ensures refused { IfErr result (λ _. (command : TheCommand) → ¬ (IsWrittenAs (texts_of words.now) command)) }
@@ -34,24 +34,30 @@ pub fn read_command<'a>(words: &[&'a str]) -> Result<Command<'a>, UsageError<'a>
     }
 }
 
-/// Returns the first word where help is asked about it by the second, `--help` or `-h`, behind which nothing is looked at.
+/// Returns the first word if a later one, before any `--`, asks for help: `--help` or `-h`. The other words are then ignored.
 pub fn help_topic<'a>(words: &[&'a str]) -> Option<&'a str>
     ensures asked { IsSome result ↔ AsksHelp (texts_of words.now) }
 {
-    match words {
-        [first, second, ..] if is_help_option(*second) => Some(*first),
-        _ => None,
+    let Some((&first, rest)) = words.split_first() else {
+        return None;
+    };
+    let (front, _behind) = cut_at_end(rest);
+    for word in front {
+        if is_help_option(*word) {
+            return Some(first);
+        }
     }
+    None
 }
 
-/// Returns whether a word behind a command asks for help.
+/// Returns whether a word after a command asks for help.
 fn is_help_option(word: &str) -> bool
-    ensures { IsTrue result ↔ IsHelpOption word.now }
+    ensures { result ≡ is_help word.now }
 {
     word == "--help" || word == "-h"
 }
 
-/// Reads the words of a call whose first word is no command with files.
+/// Reads the words of a call whose first word is not a command that takes files.
 fn read_help<'a>(first: &'a str, rest: &[&'a str]) -> Result<Command<'a>, UsageError<'a>>
     requires { (name : TheName) → first.now ≢ command_text name }
     ensures said { IfOk result (IsWrittenAs (first.now ∷ texts_of rest.now)) }
@@ -72,37 +78,61 @@ fn read_help<'a>(first: &'a str, rest: &[&'a str]) -> Result<Command<'a>, UsageE
     }
 }
 
-/// Returns whether a word asks for help.
+/// Returns whether a word, as the first one, asks for help.
 fn is_help(word: &str) -> bool
     ensures { IsTrue result ↔ IsHelpWord word.now }
 {
     word == "help" || word == "--help" || word == "-h"
 }
 
-/// Returns whether a word asks for the version.
+/// Returns whether a word, as the first one, asks for the version.
 fn is_version(word: &str) -> bool
-    ensures { IsTrue result ↔ (word.now ≡ version_word) }
+    ensures { IsTrue result ↔ IsVersionWord word.now }
 {
-    word == "--version"
+    word == "version" || word == "--version" || word == "-V"
 }
 
-/// Returns the command that help is asked about.
-fn read_topic<'a>(words: &[&'a str]) -> Result<Option<CommandName>, UsageError<'a>>
-    ensures said { IfOk result (λ topic. texts_of words.now ≡ topic_words topic) }
-    ensures refused { IfErr result (λ _. (topic : Option TheName) → texts_of words.now ≢ topic_words topic) }
+/// Returns the topic of help that the words after `help` name.
+fn read_topic<'a>(words: &[&'a str]) -> Result<Topic, UsageError<'a>>
+    ensures said { IfOk result (λ topic. IsTopic topic (texts_of words.now)) }
+    ensures refused { IfErr result (λ _. (topic : TheTopic) → ¬ (IsTopic topic (texts_of words.now))) }
     ensures fault { IfErr result (HasTopicFault (texts_of words.now)) }
 {
     match words {
-        [] => Ok(None),
-        [topic] => match CommandName::named(*topic) {
-            Some(name) => Ok(Some(name)),
+        [] => Ok(Topic::Program),
+        [topic] => match topic_named(*topic) {
+            Some(topic) => Ok(topic),
             None => Err(UsageError::UnknownCommand(*topic)),
         },
         [_, extra, ..] => Err(UsageError::ExtraWord(*extra)),
     }
 }
 
-/// Reads the words behind the name of a command.
+/// Returns the topic of help that a word names.
+fn topic_named(word: &str) -> Option<Topic>
+    ensures { MatchOption result ((topic : TheTopic) → ¬ (NamesTopic topic word.now))
+        (λ topic. NamesTopic topic word.now) }
+{
+    if let Some(name) = CommandName::named(word) {
+        return Some(Topic::Command(name));
+    }
+    if is_formats(word) {
+        return Some(Topic::Formats);
+    }
+    if is_help(word) || is_version(word) {
+        return Some(Topic::Program);
+    }
+    None
+}
+
+/// Returns whether a word names the list of formats.
+fn is_formats(word: &str) -> bool
+    ensures { IsTrue result ↔ (word.now ≡ formats_word) }
+{
+    word == "formats"
+}
+
+/// Reads the words after the name of a command.
 fn read_call<'a>(name: CommandName, words: &[&'a str]) -> Result<Command<'a>, UsageError<'a>>
     ensures said { IfOk result (λ command. IsCall name command (texts_of words.now)) }
     ensures refused { IfErr result (λ _. (command : TheCommand) → ¬ (IsCall name command (texts_of words.now))) }
@@ -114,7 +144,7 @@ fn read_call<'a>(name: CommandName, words: &[&'a str]) -> Result<Command<'a>, Us
     command_of(name, &files, &reading.given)
 }
 
-/// Returns the command that the files and what is given to the options say.
+/// Returns the command with these files and options.
 fn command_of<'a>(
     name: CommandName,
     files: &Files<'a>,

@@ -1,4 +1,4 @@
-//! What the program is asked to do.
+//! Commands: what the program is asked to do.
 
 use v_frame_formats::{Component, Rectangle, VideoFormat};
 use v_frame_rgb::{ColorRange, Standard};
@@ -8,116 +8,132 @@ use yuv_reports::ReportForm;
 /// What the words of a call ask for.
 #[derive(Clone, Copy)]
 pub enum Command<'a> {
-    /// To do a command with files.
+    /// Run a command on files.
     Call(Call<'a>),
-    /// To say how the program is called, or one of its commands.
-    Help(Option<CommandName>),
-    /// To say the program's version.
+    /// Print help.
+    Help(Topic),
+    /// Print the version of the program.
     Version,
 }
 
-/// A command with its files, each by its name, and its options. The name `-` is standard input or output.
+/// A topic of help.
+#[derive(Debug, Clone, Copy, PartialEq, Eq)]
+pub enum Topic {
+    /// The program.
+    Program,
+    /// A command.
+    Command(CommandName),
+    /// The names of formats.
+    Formats,
+}
+
+/// A command with the names of its files and its options. The name `-` is standard input or standard output.
 #[derive(Clone, Copy)]
 pub struct Call<'a> {
     /// The command.
     pub name: CommandName,
     /// The first file.
     pub first: &'a str,
-    /// The second file. Empty where the command takes one.
+    /// The second file, or an empty text if the command takes one file.
     pub second: &'a str,
-    /// The third file. Empty where the command takes fewer.
+    /// The third file, or an empty text if the command takes fewer files.
     pub third: &'a str,
-    /// How the files are read and written, and what is said.
+    /// The options.
     pub options: Options,
 }
 
 /// A command that takes files and options.
 #[derive(Debug, Clone, Copy, PartialEq, Eq)]
 pub enum CommandName {
-    /// To say what a stream is, and how many frames it has.
+    /// Prints the properties of a stream and the number of its frames.
     Info,
-    /// To say how far two streams are apart.
+    /// Measures how much two streams differ.
     Compare,
-    /// To write the first file, a stream, to the second.
+    /// Copies a stream, or a part of it, from the first file to the second.
     Copy,
-    /// To say a checksum of each frame.
+    /// Prints a checksum of each frame.
     Sum,
-    /// To say what values the samples of a stream have.
+    /// Prints statistics of the samples of a stream.
     Stats,
-    /// To write a frame of the first file to the second, as a picture.
+    /// Writes a frame of the first file to the second, as a picture.
     Show,
-    /// To write the difference of two frames to the third file, as a picture.
+    /// Writes the difference of two frames to the third file, as a picture.
     Diff,
-    /// To draw how far two streams are apart, frame by frame, to the third file.
+    /// Draws how much two streams differ, frame by frame, to the third file.
     Plot,
 }
 
-/// The options of a command. Where one is not given, or is none of the command, it is `None`, `false` or
+/// The options of a command. An option that is not given, or that the command does not have, is `None`, `false` or
 /// [`ReportForm::Lines`].
 #[derive(Clone, Copy)]
 pub struct Options {
     /// `--csv` or `--json`: the form of a report.
     pub form: ReportForm,
-    /// `--header`: the header alone is read, and no frame counted.
+    /// `--header`: only the header is read, and no frame is counted.
     pub header: bool,
-    /// `--ssim`: structural similarity is said too.
+    /// `--ssim`: structural similarity is reported too.
     pub ssim: bool,
-    /// `--frames`: each frame gets a line.
+    /// `--frames`: each frame is reported in a line.
     pub frames: bool,
-    /// `--exact`: the whole numbers are said that the others are made of.
+    /// `--exact`: the sums of squared errors are reported too.
     pub exact: bool,
-    /// `--half`: the frames get half the size.
+    /// `--half`: width and height are halved.
     pub half: bool,
-    /// `--planes`: each plane gets a checksum of its own.
+    /// `--planes`: a checksum of each plane is reported.
     pub planes: bool,
-    /// `--histogram`: how often each value occurs is said too.
+    /// `--histogram`: the report states how often each value occurs.
     pub histogram: bool,
-    /// `--raw-output`: what is written is headerless raw video.
+    /// `--raw-output`: the output is headerless video.
     pub raw_output: bool,
-    /// `--progress`: the count of frames is shown meanwhile.
+    /// `--progress`: a running frame count is shown.
     pub progress: bool,
-    /// `--skip`: how many frames are passed over; of two streams those of both, or of the first alone where `skip_second`
-    /// is given.
+    /// `--force`: a target that would be rejected is written, and a crop that swaps fields is taken.
+    pub force: bool,
+    /// `--salvage`: the complete frames before a frame that cannot be read are written.
+    pub salvage: bool,
+    /// `--skip`: the number of frames to skip: in both streams, or only in the first if `skip_second` is given.
     pub skip: Option<u64>,
-    /// `--skip-second`: how many frames of the second stream are passed over.
+    /// `--skip-second`: the number of frames of the second stream to skip.
     pub skip_second: Option<u64>,
-    /// `--count`: the most frames that are taken.
+    /// `--count`: the largest number of frames to take.
     pub count: Option<u64>,
-    /// `--frame`: which frame.
+    /// `--frame`: the number of the frame, counted from 1.
     pub frame: Option<u64>,
-    /// `--matrix`: the standard by which R'G'B' is made.
+    /// `--matrix`: the standard by which Y'CbCr is converted to R'G'B'.
     pub matrix: Option<Standard>,
-    /// `--range`: which samples stand for black and white.
+    /// `--range`: the range of the samples, limited or full.
     pub range: Option<ColorRange>,
-    /// `--plane`: the one plane that is shown, in gray.
+    /// `--plane`: the plane that is shown, in gray.
     pub plane: Option<Component>,
-    /// `--crop`, spelled `X,Y,WIDTH,HEIGHT`: the rectangle that is taken of each frame, in luma pixels. It has at least one.
+    /// `--crop`, spelled `X,Y,WIDTH,HEIGHT`: the part of each frame to take, in luma pixels, with at least one.
     pub crop: Option<Rectangle>,
-    /// `--gain`: what each difference is multiplied by.
+    /// `--gain`: the factor of each difference, at least 1.
     pub gain: Option<u16>,
-    /// `--format`: the chroma subsampling, the bit depth and the layout that the frames get.
+    /// `--format`: the chroma subsampling, the bit depth and the sample order to convert to.
     pub format: Option<VideoFormat>,
-    /// `--rate`: the frames per second that the header gets.
+    /// `--rate`: the frames per second to write into the header.
     pub rate: Option<Ratio>,
-    /// `--aspect`: the width of a pixel beside its height that the header gets.
+    /// `--aspect`: the ratio of a pixel's width to its height to write into the header.
     pub aspect: Option<Ratio>,
-    /// `--raw`: the first stream is headerless raw video of this size and format.
+    /// `--raw`: the first stream is headerless video of this size and format.
     pub raw: Option<RawVideo>,
-    /// `--raw-second`: so is the second stream.
+    /// `--raw-second`: the second stream is headerless video of this size and format.
     pub raw_second: Option<RawVideo>,
-    /// `--max-pixels`: the most luma pixels that a frame may have.
+    /// `--max-pixels`: the largest number of luma pixels that a frame may have.
     pub max_pixels: Option<u64>,
 }
 
-/// What headerless raw video is, spelled `WIDTHxHEIGHT:FORMAT` or `WIDTHxHEIGHT:FORMAT@N:D`, as `1920x1080:420p10@25:1`.
+/// The format of headerless video, spelled `WIDTHxHEIGHT:FORMAT` or `WIDTHxHEIGHT:FORMAT@RATE`, as `1920x1080:yuv420p10@25`.
 #[derive(Debug, Clone, Copy, PartialEq, Eq)]
 pub struct RawVideo {
-    /// The columns of luma, at least 1.
+    /// The width in luma pixels, at least 1.
     pub width: usize,
-    /// The rows of luma, at least 1.
+    /// The height in luma pixels, at least 1.
     pub height: usize,
-    /// The chroma subsampling, the bit depth and the layout.
+    /// The chroma subsampling, the bit depth and the order of the samples.
     pub format: VideoFormat,
-    /// The frames per second.
+    /// Whether the name of the format states that samples have full range.
+    pub full_range: bool,
+    /// The frames per second, if they are given. Both numbers are above 0.
     pub rate: Option<Ratio>,
 }

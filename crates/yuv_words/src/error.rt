@@ -1,28 +1,29 @@
-//! Why words ask for nothing.
+//! Errors in the words of a call.
 
 use crate::command::CommandName;
 use crate::option_name::OptionName;
+use crate::raw_part::raw_part;
 use std::fmt;
 
-/// Why the words of a call ask for nothing.
+/// Why the words of a call are rejected.
 #[derive(Drop)]
 pub enum UsageError<'a> {
     /// There are no words.
     NoCommand,
-    /// The first word is no command, or the word after `help` is none.
+    /// The first word is not a command, or the word after `help` is not a topic of help.
     UnknownCommand(&'a str),
-    /// The word follows all that `help` or `--version` takes.
+    /// This word follows all words that `help` or `version` takes.
     ExtraWord(&'a str),
-    /// The word begins as an option does, and is none.
+    /// The word begins with a dash, but is not an option.
     UnknownOption(&'a str),
-    /// The command has no such option.
+    /// The command does not have the option.
     NotOfCommand {
         /// The option.
         option: OptionName,
         /// The command.
         command: CommandName,
     },
-    /// The option stands there twice.
+    /// The option is given twice.
     Repeated(OptionName),
     /// The option takes a value, and is the last word.
     MissingValue(OptionName),
@@ -30,39 +31,39 @@ pub enum UsageError<'a> {
     NeedlessValue {
         /// The option.
         option: OptionName,
-        /// The value.
+        /// The value that was given.
         value: &'a str,
     },
-    /// The word behind the option spells no value of it.
+    /// The word is not a value of the option.
     NotAValue {
         /// The option.
         option: OptionName,
         /// The word.
         word: &'a str,
     },
-    /// `--csv` and `--json` stand there both.
+    /// Both `--csv` and `--json` are given.
     TwoForms,
     /// There are fewer files than the command takes.
     MissingFile,
-    /// There are more files than the command takes, and this is the first too many.
+    /// There are more files than the command takes, and this is the first that is too many.
     ExtraFile(&'a str),
-    /// An argument is not UTF-8, so that no word of it is known. [`read_command`](crate::read_command) takes words, and
-    /// never answers this.
+    /// An argument is not valid UTF-8. [`read_command`](crate::read_command) takes words that are, and never returns this
+    /// error.
     NotUnicode,
 }
 
-// By hand: what is derived of so many variants takes longer to prove.
+// Written by hand: the derived implementation for this many variants takes longer to prove.
 impl fmt::Display for UsageError<'_> {
     fn fmt<W: fmt::Write>(&self, f: &mut fmt::Formatter<W>) -> fmt::Result {
         match self {
-            UsageError::NoCommand => f.write_str("no command is given"),
-            UsageError::UnknownCommand(word) => write!(f, "unknown command {word}"),
-            UsageError::ExtraWord(word) => write!(f, "one word too many: {word}"),
-            UsageError::UnknownOption(word) => write!(f, "unknown option {word}"),
-            UsageError::MissingFile => f.write_str("a file is missing"),
-            UsageError::ExtraFile(name) => write!(f, "one file too many: {name}"),
-            UsageError::TwoForms => f.write_str("--csv and --json are two forms of one report"),
-            UsageError::NotUnicode => f.write_str("an argument is not UTF-8"),
+            UsageError::NoCommand => f.write_str("missing command"),
+            UsageError::UnknownCommand(word) => write!(f, "unknown command '{word}'"),
+            UsageError::ExtraWord(word) => write!(f, "unexpected argument '{word}'"),
+            UsageError::UnknownOption(word) => write!(f, "unknown option '{word}'"),
+            UsageError::MissingFile => f.write_str("missing FILE argument"),
+            UsageError::ExtraFile(name) => write!(f, "too many files: unexpected '{name}'"),
+            UsageError::TwoForms => f.write_str("--csv and --json cannot be combined"),
+            UsageError::NotUnicode => f.write_str("an argument is not valid UTF-8"),
             of_option => of_option.write_option(f),
         }
     }
@@ -73,19 +74,36 @@ impl UsageError<'_> {
     fn write_option<W: fmt::Write>(&self, f: &mut fmt::Formatter<W>) -> fmt::Result {
         match self {
             UsageError::NotOfCommand { option, command } => {
-                write!(f, "{} is no option of {}", option.text(), command.text())
+                write!(f, "{} has no option {}", command.text(), option.text())
             }
-            UsageError::Repeated(option) => write!(f, "{} stands there twice", option.text()),
+            UsageError::Repeated(option) => write!(f, "{} given twice", option.text()),
             UsageError::MissingValue(option) => {
-                write!(f, "{} needs {}", option.text(), option.needs())
+                write!(f, "{} requires {}", option.text(), option.needs())
             }
             UsageError::NeedlessValue { option, value } => {
-                write!(f, "{} takes no value, not even {value}", option.text())
+                write!(f, "{} takes no value, found '{value}'", option.text())
             }
-            UsageError::NotAValue { option, word } => {
-                write!(f, "{} needs {}, not {word}", option.text(), option.needs())
-            }
+            UsageError::NotAValue { option, word } => write_value(f, *option, *word),
             _ => Ok(()),
+        }
+    }
+}
+
+/// Writes that a word is not a value of an option. For headerless video, the message names the part that is wrong.
+fn write_value<W: fmt::Write>(
+    f: &mut fmt::Formatter<W>,
+    option: OptionName,
+    word: &str,
+) -> fmt::Result {
+    let name = option.text();
+    match option {
+        OptionName::Raw | OptionName::RawSecond => {
+            let part = raw_part(word);
+            write!(f, "invalid {name} '{word}': {part}")
+        }
+        _ => {
+            let needs = option.needs();
+            write!(f, "{name} requires {needs}, not '{word}'")
         }
     }
 }

@@ -1,4 +1,4 @@
-//! The files of a call.
+//! The file names of a call.
 ghost use Rattle.std.specs.Prelude.{List, ℕ, ◌≡◌, ◌<◌, ◌≤◌, ◌++◌, ◌∷◌, [], length, IfOk, IfErr, IfNone, IfSome};
 ghost use Rattle.yuv_words.specs.Commands.{AreFiles};
 ghost use Rattle.yuv_words.specs.Faults.{HasFileFault, HasLateFile};
@@ -9,7 +9,7 @@ ghost use Rattle.yuv_words.specs.Words.{texts_of};
 use crate::command::CommandName;
 use crate::error::UsageError;
 
-/// The files so far. No command takes more than three.
+/// The file names read so far. No command takes more than three.
 #[derive(Clone, Copy)]
 pub(crate) enum Files<'a> {
     Zero,
@@ -19,7 +19,7 @@ pub(crate) enum Files<'a> {
 }
 
 impl<'a> Files<'a> {
-    /// Returns how many files there are.
+    /// Returns the number of files.
     fn count(&self) -> usize
         ensures { result ≡ length (file_names self.now) }
     {
@@ -31,7 +31,7 @@ impl<'a> Files<'a> {
         }
     }
 
-    /// Returns these files and one more behind them. `None` where the command takes no more.
+    /// Returns these files and one more, or `None` if the command takes no more files.
     pub(crate) fn with(&self, command: CommandName, name: &'a str) -> Option<Files<'a>>
         ensures some { IfSome result (λ files. file_names files ≡ file_names self.now ++ name.now ∷ []) }
         ensures room { IfSome result (λ _. length (file_names self.now) < file_count command) }
@@ -48,7 +48,7 @@ impl<'a> Files<'a> {
         }
     }
 
-    /// Returns these files and more behind them.
+    /// Returns these files, followed by more.
     pub(crate) fn with_all(
         &self,
         command: CommandName,
@@ -69,7 +69,7 @@ impl<'a> Files<'a> {
         Ok(files)
     }
 
-    /// Returns the files of a command, and empty names behind them.
+    /// Returns three names: the files of a command, followed by empty names.
     pub(crate) fn of(
         &self,
         command: CommandName,

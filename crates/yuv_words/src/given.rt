@@ -1,4 +1,4 @@
-//! What is given to each option.
+//! The values that the words of a call give to options.
 ghost use Rattle.std.specs.Prelude.{◌≡◌, length};
 
 use crate::command::Options;
@@ -7,11 +7,11 @@ use crate::option_name::{OPTION_COUNT, OptionName};
 use crate::values::OptionValue;
 use yuv_reports::ReportForm;
 
-/// What is given to each option that stands among the words: its value, or nothing where it takes none.
+/// The text that each option is given: its value, or an empty text if it takes no value.
 #[derive(Clone, Copy)]
 pub(crate) struct Given<'a> {
     texts: [Option<&'a str>; OPTION_COUNT],
-    ghost all: { length texts ≡ 26 },
+    ghost all: { length texts ≡ 28 },
 }
 
 impl<'a> Given<'a> {
@@ -23,7 +23,7 @@ impl<'a> Given<'a> {
     ghost use Rattle.yuv_reports.specs.declared.comparison.ReportForm.{ReportForm as TheForm};
     ghost use Rattle.yuv_words.specs.declared.option_name.OptionName.{OptionName as TheOption};
 
-    /// Returns what is given by no words.
+    /// Returns the values before any word was read: no option is given.
     pub(crate) fn new() -> Self
         ensures { (n : TheOption) → given_to result n ≡ [] }
     {
@@ -32,14 +32,14 @@ impl<'a> Given<'a> {
         }
     }
 
-    /// Returns what is given to an option.
+    /// Returns the text that an option is given, or `None` if it is not given.
     pub(crate) fn text(&self, option: OptionName) -> Option<&'a str>
         ensures { given_to self.now option ≡ text_in result }
     {
         self.texts[option.place()]
     }
 
-    /// Gives a text to an option.
+    /// Records that an option is given with this text.
     pub(crate) fn set(&mut self, option: OptionName, text: &'a str)
         ensures given { given_to self.new option ≡ text.now ∷ [] }
         ensures others { (n : TheOption) → n ≢ option → given_to self.new n ≡ given_to self.old n }
@@ -47,14 +47,14 @@ impl<'a> Given<'a> {
         self.texts[option.place()] = Some(text);
     }
 
-    /// Returns whether an option stands there.
+    /// Returns whether an option is given.
     pub(crate) fn has(&self, option: OptionName) -> bool
         ensures { length (given_to self.now option) ≡ times result }
     {
         self.text(option).is_some()
     }
 
-    /// Returns the value of an option.
+    /// Returns the value of an option, or `None` if it is not given.
     pub(crate) fn value<T: OptionValue>(
         &self,
         option: OptionName,
@@ -91,6 +91,8 @@ impl<'a> Given<'a> {
             histogram: self.has(OptionName::Histogram),
             raw_output: self.has(OptionName::RawOutput),
             progress: self.has(OptionName::Progress),
+            force: self.has(OptionName::Force),
+            salvage: self.has(OptionName::Salvage),
             skip: self.value(OptionName::Skip)?,
             skip_second: self.value(OptionName::SkipSecond)?,
             count: self.value(OptionName::Count)?,
@@ -109,7 +111,7 @@ impl<'a> Given<'a> {
         })
     }
 
-    /// Returns the form of a report.
+    /// Returns the form of a report: `--csv`, `--json`, or lines if neither is given.
     fn report_form(&self) -> Result<ReportForm, UsageError<'a>>
         ensures csv { IfOk result (λ form. length (given_to self.now OptionName.Csv) ≡ times (is_csv form)) }
         ensures json { IfOk result (λ form. length (given_to self.now OptionName.Json) ≡ times (is_json form)) }

@@ -1,4 +1,4 @@
-//! The words that the program `yuv` is called with, read into a [`Command`].
+//! The command line of the program `yuv`: its words are read into a [`Command`], or rejected with a [`UsageError`]; help.
 #![tactic(auto)]
 
 mod call;
@@ -8,13 +8,14 @@ mod files;
 mod given;
 mod option_help;
 mod option_name;
+mod raw_part;
 mod reading;
 mod usage;
 mod values;
 mod word;
 
 pub use call::{help_topic, read_command};
-pub use command::{Call, Command, CommandName, Options, RawVideo};
+pub use command::{Call, Command, CommandName, Options, RawVideo, Topic};
 pub use error::UsageError;
 pub use option_name::OptionName;
 pub use usage::usage_text;

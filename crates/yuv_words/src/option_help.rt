@@ -1,103 +1,122 @@
-//! What help says of each option, in lines of 80 columns.
+//! The line or lines that help prints for each option. No line is longer than 80 columns.
 
-/// Of `--header`.
-pub(crate) const HEADER: &str = "--header          reads the header alone, and counts no frames\n";
+/// The help of `--header`.
+pub(crate) const HEADER: &str = "  --header           read the header only; count no frames\n";
 
-/// Of `--ssim`.
+/// The help of `--ssim`.
 pub(crate) const SSIM: &str =
-    "--ssim            reports structural similarity too, as ffmpeg's filter ssim
-                  computes it; planes have at least 8 by 8 samples\n";
+    "  --ssim             print SSIM too, as ffmpeg computes it; every plane must
+                     have at least 8x8 samples\n";
 
-/// Of `--frames`.
+/// The help of `--frames`.
 pub(crate) const FRAMES: &str =
-    "--frames          reports each frame in a line, as ffmpeg's filter psnr does\n";
+    "  --frames           print a line for each frame, in the format of ffmpeg's
+                     psnr filter\n";
 
-/// Of `--exact`.
-pub(crate) const EXACT: &str = "--exact           reports the sums of squared errors too\n";
+/// The help of `--exact`.
+pub(crate) const EXACT: &str = "  --exact            print the sums of squared errors too\n";
 
-/// Of `--csv`.
-pub(crate) const CSV: &str = "--csv             reports each frame with all digits, as a table\n";
+/// The help of `--csv`.
+pub(crate) const CSV: &str =
+    "  --csv              print a CSV table: one row for each frame, all digits\n";
 
-/// Of `--json`.
+/// The help of `--json`.
 pub(crate) const JSON: &str =
-    "--json            reports each frame with all digits, as an object, and the
-                  mean, the harmonic mean and the least of all\n";
+    "  --json             print JSON: each frame with all digits, and mean, harmonic
+                     mean and minimum over all frames\n";
 
-/// Of `--half`.
+/// The help of `--half`.
 pub(crate) const HALF: &str =
-    "--half            writes frames of half the size, rounded up: the mean of two by
-                  two samples, where an odd last column or row counts twice\n";
+    "  --half             halve width and height, rounded up, by averaging blocks of
+                     2x2 samples\n";
 
-/// Of `--planes`.
+/// The help of `--planes`.
 pub(crate) const PLANES: &str =
-    "--planes          reports a checksum of each plane in place of the frame's\n";
+    "  --planes           print a checksum of each plane instead of each frame\n";
 
-/// Of `--histogram`.
+/// The help of `--histogram`.
 pub(crate) const HISTOGRAM: &str =
-    "--histogram       reports how often each value occurs, as a table with commas\n";
+    "  --histogram        print a CSV table of how often each value occurs\n";
 
-/// Of `--raw-output`.
-pub(crate) const RAW_OUTPUT: &str = "--raw-output      writes headerless raw video\n";
+/// The help of `--raw-output`.
+pub(crate) const RAW_OUTPUT: &str =
+    "  --raw-output       write headerless video instead of YUV4MPEG2\n";
 
-/// Of `--progress`.
+/// The help of `--progress`.
 pub(crate) const PROGRESS: &str =
-    "--progress        shows the count of frames meanwhile, on a terminal; where
-                  lines of frames go to one too the last count alone, with
-                  --json none\n";
+    "  --progress         show a running frame count if standard error is a terminal\n";
 
-/// Of `--raw`.
-pub(crate) const RAW: &str = "--raw R           the (first) file is headerless raw video: R is
-                  WIDTHxHEIGHT:FORMAT or WIDTHxHEIGHT:FORMAT@N:D, as
-                  1920x1080:yuv420p10le@25:1\n";
+/// The help of `--force`.
+pub(crate) const FORCE: &str =
+    "  --force            write the target even if it is an input, a video that a
+                     picture would replace, or has the extension of another
+                     kind of file; crop even if that swaps interlaced fields\n";
 
-/// Of `--raw-second`.
-pub(crate) const RAW_SECOND: &str = "--raw-second R    so is the second file\n";
+/// The help of `--salvage`.
+pub(crate) const SALVAGE: &str =
+    "  --salvage          if a frame cannot be read, keep the frames before it, print
+                     their number, and exit with status 2\n";
 
-/// Of `--max-pixels`.
+/// The help of `--raw`.
+pub(crate) const RAW: &str =
+    "  --raw SPEC         read the (first) file as headerless video. SPEC is
+                     WIDTHxHEIGHT:FORMAT[@RATE], as 1920x1080:yuv420p10@25
+                     or 640x480:nv12@30000/1001; see 'yuv help formats'\n";
+
+/// The help of `--raw-second`.
+pub(crate) const RAW_SECOND: &str = "  --raw-second SPEC  like --raw, for the second file\n";
+
+/// The help of `--max-pixels`.
 pub(crate) const MAX_PIXELS: &str =
-    "--max-pixels N    refuses frames of more than N luma pixels (33177600; info, and
-                  copy where no sample changes, take any number)\n";
+    "  --max-pixels N     reject frames of more than N luma pixels (33177600; no
+                     limit for info, or for copy if no sample changes)\n";
 
-/// Of `--skip`.
-pub(crate) const SKIP: &str = "--skip N          passes over the first N frames of each stream\n";
+/// The help of `--skip`.
+pub(crate) const SKIP: &str = "  --skip N           skip the first N frames of each stream (0)\n";
 
-/// Of `--skip-second`.
+/// The help of `--skip-second`.
 pub(crate) const SKIP_SECOND: &str =
-    "--skip-second N   passes over N frames of the second stream, and --skip of the
-                  first alone\n";
+    "  --skip-second N    skip the first N frames of the second stream; --skip then
+                     applies to the first stream only\n";
 
-/// Of `--count`.
-pub(crate) const COUNT: &str = "--count N         takes N frames at most\n";
+/// The help of `--count`.
+pub(crate) const COUNT: &str = "  --count N          take at most N frames (all)\n";
 
-/// Of `--crop`.
-pub(crate) const CROP: &str = "--crop X,Y,WIDTH,HEIGHT
-                  takes a rectangle of each frame, in luma pixels\n";
+/// The help of `--crop`.
+pub(crate) const CROP: &str =
+    "  --crop X,Y,W,H     take a rectangle of W by H luma pixels, whose upper left
+                     pixel is in column X and row Y\n";
 
-/// Of `--format`.
+/// The help of `--format`.
 pub(crate) const FORMAT: &str =
-    "--format F        writes another chroma subsampling, depth or layout, as
-                  yuv420p10le, 420p10, gray, mono, nv12 or p010le\n";
+    "  --format FORMAT    convert to this chroma format and bit depth, as yuv422p10;
+                     see 'yuv help formats'\n";
 
-/// Of `--rate`.
-pub(crate) const RATE: &str = "--rate N:D        the frames per second in the header\n";
+/// The help of `--rate`.
+pub(crate) const RATE: &str =
+    "  --rate RATE        write this frame rate into the header, as 25, 30000:1001 or
+                     30000/1001\n";
 
-/// Of `--aspect`.
+/// The help of `--aspect`.
 pub(crate) const ASPECT: &str =
-    "--aspect N:D      the width of a pixel beside its height in the header\n";
+    "  --aspect N:D       write this pixel aspect ratio, width to height, into the
+                     header\n";
 
-/// Of `--frame`.
-pub(crate) const FRAME: &str = "--frame N         which frame, counted from 1 (1)\n";
+/// The help of `--frame`.
+pub(crate) const FRAME: &str = "  --frame N          take frame N, counted from 1 (1)\n";
 
-/// Of `--matrix`.
+/// The help of `--matrix`.
 pub(crate) const MATRIX: &str =
-    "--matrix M        the standard of the colors: bt601, bt709 or bt2020 (bt709)\n";
+    "  --matrix M         convert colors by bt601, bt709 or bt2020 (bt601 up to 576
+                     rows, else bt709)\n";
 
-/// Of `--range`.
+/// The help of `--range`.
 pub(crate) const RANGE: &str =
-    "--range R         the range of the samples: limited or full (limited)\n";
+    "  --range R          take samples as limited or full range (the range that the
+                     header states, else limited)\n";
 
-/// Of `--plane`.
-pub(crate) const PLANE: &str = "--plane P         shows one plane in gray: y, u or v\n";
+/// The help of `--plane`.
+pub(crate) const PLANE: &str = "  --plane P          show one plane in gray: y, u or v\n";
 
-/// Of `--gain`.
-pub(crate) const GAIN: &str = "--gain N          multiplies each difference by N (8)\n";
+/// The help of `--gain`.
+pub(crate) const GAIN: &str = "  --gain N           multiply each difference by N, from 1 (8)\n";

@@ -1,4 +1,4 @@
-//! The names of options and of commands, what an option takes, and how many files and which options a command has.
+//! The names of options and commands, the values that options take, and the options and the number of files of each command.
 ghost use Rattle.std.specs.Prelude.{◌≡◌, ◌≢◌, ◌<◌, ◌↔◌, is_some, Contains, IsTrue, MatchOption};
 ghost use Rattle.yuv_words.specs.Names.{command_text, file_count as count_of_files, option_text, options_of, takes_value as has_value};
 ghost use Rattle.yuv_words.specs.Reading.{option_place};
@@ -7,17 +7,17 @@ ghost use Rattle.yuv_words.specs.declared.option_name.OptionName.{OptionName as 
 
 use crate::command::CommandName;
 use crate::option_help::{
-    ASPECT, COUNT, CROP, CSV, EXACT, FORMAT, FRAME, FRAMES, GAIN, HALF, HEADER, HISTOGRAM, JSON,
-    MATRIX, MAX_PIXELS, PLANE, PLANES, PROGRESS, RANGE, RATE, RAW, RAW_OUTPUT, RAW_SECOND, SKIP,
-    SKIP_SECOND, SSIM,
+    ASPECT, COUNT, CROP, CSV, EXACT, FORCE, FORMAT, FRAME, FRAMES, GAIN, HALF, HEADER, HISTOGRAM,
+    JSON, MATRIX, MAX_PIXELS, PLANE, PLANES, PROGRESS, RANGE, RATE, RAW, RAW_OUTPUT, RAW_SECOND,
+    SALVAGE, SKIP, SKIP_SECOND, SSIM,
 };
 use crate::option_name::OptionName::{
-    Aspect, Count, Crop, Csv, Exact, Format, Frame, Frames, Gain, Half, Header, Histogram, Json,
-    Matrix, MaxPixels, Plane, Planes, Progress, Range, Rate, Raw, RawOutput, RawSecond, Skip,
-    SkipSecond, Ssim,
+    Aspect, Count, Crop, Csv, Exact, Force, Format, Frame, Frames, Gain, Half, Header, Histogram,
+    Json, Matrix, MaxPixels, Plane, Planes, Progress, Range, Rate, Raw, RawOutput, RawSecond,
+    Salvage, Skip, SkipSecond, Ssim,
 };
 
-/// An option of some command, by its name.
+/// The name of an option.
 #[derive(Debug, Clone, Copy, PartialEq, Eq)]
 pub enum OptionName {
     Header,
@@ -31,6 +31,8 @@ pub enum OptionName {
     Histogram,
     RawOutput,
     Progress,
+    Force,
+    Salvage,
     Raw,
     RawSecond,
     MaxPixels,
@@ -48,17 +50,17 @@ pub enum OptionName {
     Gain,
 }
 
-/// How many options there are.
-pub(crate) const OPTION_COUNT: usize = 26;
+/// The number of options.
+pub(crate) const OPTION_COUNT: usize = 28;
 
 /// All options.
 const OPTIONS: [OptionName; OPTION_COUNT] = [
-    Header, Ssim, Frames, Exact, Csv, Json, Half, Planes, Histogram, RawOutput, Progress, Raw,
-    RawSecond, MaxPixels, Skip, SkipSecond, Count, Crop, Format, Rate, Aspect, Frame, Matrix,
-    Range, Plane, Gain,
+    Header, Ssim, Frames, Exact, Csv, Json, Half, Planes, Histogram, RawOutput, Progress, Force,
+    Salvage, Raw, RawSecond, MaxPixels, Skip, SkipSecond, Count, Crop, Format, Rate, Aspect, Frame,
+    Matrix, Range, Plane, Gain,
 ];
 
-/// All commands that have files.
+/// All commands that take files.
 const COMMANDS: [CommandName; 8] = [
     CommandName::Info,
     CommandName::Compare,
@@ -71,8 +73,7 @@ const COMMANDS: [CommandName; 8] = [
 ];
 
 impl OptionName {
-    /// Returns the word that the option is written as, with its dashes, what it takes, where it takes a value, and what help says
-    /// of it.
+    /// Returns the word of the option with its dashes, a description of its value if it takes one, and its help.
     fn row(self) -> (&'static str, Option<&'static str>, &'static str)
         ensures text { result.0.now ≡ option_text self }
         ensures value { is_some result.1 ≡ has_value self }
@@ -89,57 +90,67 @@ impl OptionName {
             Histogram => ("--histogram", None, HISTOGRAM),
             RawOutput => ("--raw-output", None, RAW_OUTPUT),
             Progress => ("--progress", None, PROGRESS),
-            Raw => ("--raw", Some("WIDTHxHEIGHT:FORMAT, at least 1x1"), RAW),
+            Force => ("--force", None, FORCE),
+            Salvage => ("--salvage", None, SALVAGE),
+            Raw => ("--raw", Some("WIDTHxHEIGHT:FORMAT[@RATE]"), RAW),
             RawSecond => (
                 "--raw-second",
-                Some("WIDTHxHEIGHT:FORMAT, at least 1x1"),
+                Some("WIDTHxHEIGHT:FORMAT[@RATE]"),
                 RAW_SECOND,
             ),
-            MaxPixels => ("--max-pixels", Some("a number below 2^64"), MAX_PIXELS),
-            Skip => ("--skip", Some("a number below 2^64"), SKIP),
-            SkipSecond => ("--skip-second", Some("a number below 2^64"), SKIP_SECOND),
-            Count => ("--count", Some("a number below 2^64"), COUNT),
-            Crop => ("--crop", Some("X,Y,WIDTH,HEIGHT, at least 1x1"), CROP),
+            MaxPixels => ("--max-pixels", Some("a whole number"), MAX_PIXELS),
+            Skip => ("--skip", Some("a whole number"), SKIP),
+            SkipSecond => ("--skip-second", Some("a whole number"), SKIP_SECOND),
+            Count => ("--count", Some("a whole number"), COUNT),
+            Crop => (
+                "--crop",
+                Some("X,Y,WIDTH,HEIGHT with at least 1x1 pixels"),
+                CROP,
+            ),
             Format => (
                 "--format",
-                Some("a format, as yuv420p10le or 420p10"),
+                Some("a format that 'yuv help formats' lists"),
                 FORMAT,
             ),
-            Rate => ("--rate", Some("N:D"), RATE),
-            Aspect => ("--aspect", Some("N:D"), ASPECT),
-            Frame => ("--frame", Some("a number below 2^64"), FRAME),
+            Rate => (
+                "--rate",
+                Some("a rate above 0, as 25, 30000:1001 or 30000/1001"),
+                RATE,
+            ),
+            Aspect => ("--aspect", Some("two numbers, as 4:3"), ASPECT),
+            Frame => ("--frame", Some("a whole number"), FRAME),
             Matrix => ("--matrix", Some("bt601, bt709 or bt2020"), MATRIX),
             Range => ("--range", Some("limited or full"), RANGE),
             Plane => ("--plane", Some("y, u or v"), PLANE),
-            Gain => ("--gain", Some("a number below 65536"), GAIN),
+            Gain => ("--gain", Some("a number from 1 to 65535"), GAIN),
         }
     }
 
-    /// Returns the word that the option is written as, with its dashes.
+    /// Returns the word of the option with its dashes.
     pub fn text(self) -> &'static str
         ensures { result.now ≡ option_text self }
     {
         self.row().0
     }
 
-    /// Returns what the option takes, in words. Empty where it takes no value.
+    /// Returns a description of the value, or an empty text if the option takes no value.
     pub(crate) fn needs(self) -> &'static str {
         self.row().1.unwrap_or("")
     }
 
-    /// Returns what help says of the option: lines that begin with its word.
+    /// Returns the help of the option: one or more lines, the first of which begins with its word.
     pub fn help(self) -> &'static str {
         self.row().2
     }
 
-    /// Returns whether a value belongs to the option.
+    /// Returns whether the option takes a value.
     pub(crate) fn takes_value(self) -> bool
         ensures { result ≡ has_value self }
     {
         self.row().1.is_some()
     }
 
-    /// Returns the place of the option among all.
+    /// Returns the index of the option in the list of all options.
     pub(crate) fn place(self) -> usize
         ensures place { result ≡ option_place self }
         ensures below { result < OPTION_COUNT }
@@ -147,7 +158,7 @@ impl OptionName {
         self as usize
     }
 
-    /// Returns the option that a word is.
+    /// Returns the option with this word, or `None` if there is none.
     pub(crate) fn named(word: &str) -> Option<Self>
         ensures { MatchOption result ((n : TheOption) → word.now ≢ option_text n)
             (λ n. word.now ≡ option_text n) }
@@ -160,7 +171,7 @@ impl OptionName {
         None
     }
 
-    /// Returns whether a word is the option.
+    /// Returns whether this is the word of the option.
     fn is_written(self, word: &str) -> bool
         ensures { IsTrue result ↔ (word.now ≡ option_text self) }
     {
@@ -169,7 +180,7 @@ impl OptionName {
 }
 
 impl CommandName {
-    /// Returns the word that the command is written as.
+    /// Returns the word of the command.
     pub fn text(self) -> &'static str
         ensures { result.now ≡ command_text self }
     {
@@ -185,7 +196,7 @@ impl CommandName {
         }
     }
 
-    /// Returns the command that a word is.
+    /// Returns the command with this word, or `None` if there is none.
     pub(crate) fn named(word: &str) -> Option<Self>
         ensures { MatchOption result ((k : TheCommand) → word.now ≢ command_text k)
             (λ k. word.now ≡ command_text k) }
@@ -198,14 +209,14 @@ impl CommandName {
         None
     }
 
-    /// Returns whether a word is the command.
+    /// Returns whether this is the word of the command.
     fn is_written(self, word: &str) -> bool
         ensures { IsTrue result ↔ (word.now ≡ command_text self) }
     {
         word == self.text()
     }
 
-    /// Returns how many files the command takes.
+    /// Returns the number of files that the command takes.
     pub(crate) fn file_count(self) -> usize
         ensures { result ≡ count_of_files self }
     {
@@ -216,7 +227,7 @@ impl CommandName {
         }
     }
 
-    /// Returns the options that the command has, in the order in which help shows them.
+    /// Returns the options of the command, in the order in which help lists them.
     pub fn options(self) -> &'static [OptionName]
         ensures { result.now ≡ options_of self }
     {
@@ -227,17 +238,20 @@ impl CommandName {
                 Progress,
             ],
             CommandName::Copy => &[
-                Skip, Count, Crop, Half, Format, Rate, Aspect, Raw, RawOutput, MaxPixels, Progress,
+                Skip, Count, Crop, Half, Format, Rate, Aspect, Raw, RawOutput, Salvage, Force,
+                MaxPixels, Progress,
             ],
             CommandName::Sum => &[Planes, Skip, Count, Raw, MaxPixels, Progress],
-            CommandName::Stats => &[Histogram, Skip, Count, Raw, MaxPixels, Progress],
-            CommandName::Show => &[Frame, Matrix, Range, Plane, Crop, Raw, MaxPixels],
-            CommandName::Diff => &[Frame, Gain, Raw, RawSecond, MaxPixels],
-            CommandName::Plot => &[Skip, SkipSecond, Count, Raw, RawSecond, MaxPixels, Progress],
+            CommandName::Stats => &[Histogram, Range, Skip, Count, Raw, MaxPixels, Progress],
+            CommandName::Show => &[Frame, Matrix, Range, Plane, Crop, Raw, Force, MaxPixels],
+            CommandName::Diff => &[Frame, Gain, Raw, RawSecond, Force, MaxPixels],
+            CommandName::Plot => &[
+                Skip, SkipSecond, Count, Raw, RawSecond, Force, MaxPixels, Progress,
+            ],
         }
     }
 
-    /// Returns whether the command has an option.
+    /// Returns whether the command has this option.
     pub(crate) fn takes(self, option: OptionName) -> bool
         ensures { IsTrue result ↔ Contains (options_of self) option }
     {

@@ -1,4 +1,4 @@
-//! The words of a call, read into what they give to each option and the files that they name.
+//! Reads the words of a call into file names and the values of options.
 ghost use Rattle.std.specs.Prelude.{List, ℕ, ◌≡◌, ◌≤◌, ◌++◌, ◌∷◌, [], drop, length, Contains, IfOk, IfErr, None};
 ghost use Rattle.std.specs.List.{position_or_len};
 ghost use Rattle.yuv_words.specs.Faults.{HasWordFault, Names};
@@ -13,12 +13,12 @@ use crate::given::Given;
 use crate::option_name::OptionName;
 use crate::word::{Word, word_of};
 
-/// What the words so far say.
+/// The result of the words read so far.
 #[derive(Clone, Copy)]
 pub(crate) struct Reading<'a> {
     pub(crate) files: Files<'a>,
     pub(crate) given: Given<'a>,
-    /// The option whose value is the next word.
+    /// The option whose value is the next word, if there is one.
     awaiting: Option<OptionName>,
 }
 
@@ -31,7 +31,7 @@ pub(crate) fn cut_at_end<'b, 'a>(words: &'b [&'a str]) -> (&'b [&'a str], &'b [&
     (front, without_first(behind))
 }
 
-/// Returns the place of the first `--`, or how many words there are.
+/// Returns the index of the first `--`, or the number of words if there is none.
 fn end_place(words: &[&str]) -> usize
     ensures place { result ≡ position_or_len is_end (texts_of words.now) }
     ensures bound { result ≤ length words.now }
@@ -51,7 +51,7 @@ fn is_end_word(word: &str) -> bool
     word == "--"
 }
 
-/// Returns the words behind the first one.
+/// Returns the words after the first one.
 fn without_first<'b, 'a>(words: &'b [&'a str]) -> &'b [&'a str]
     ensures { result.now ≡ drop 1 words.now }
 {
@@ -61,7 +61,7 @@ fn without_first<'b, 'a>(words: &'b [&'a str]) -> &'b [&'a str]
     }
 }
 
-/// Reads the words in front of `--`.
+/// Reads the words before `--`.
 pub(crate) fn read_words<'a>(
     command: CommandName,
     words: &[&'a str],
@@ -85,7 +85,7 @@ pub(crate) fn read_words<'a>(
 }
 
 impl<'a> Reading<'a> {
-    /// Takes one more word.
+    /// Reads one more word.
     fn take(&mut self, command: CommandName, word: &'a str) -> Result<(), UsageError<'a>>
         ensures read { IfOk result (λ _. (words : List (List ℕ)) → IsRead command words self.old
             → IsRead command (words ++ word.now ∷ []) self.new) }
@@ -126,7 +126,7 @@ impl<'a> Reading<'a> {
         }
     }
 
-    /// Refuses an option that the command has not, or that stands there a second time.
+    /// Rejects an option that the command does not have, or that is given a second time.
     fn admit(&self, command: CommandName, option: OptionName) -> Result<(), UsageError<'a>>
         ensures own { IfOk result (λ _. Contains (options_of command) option) }
         ensures first { IfOk result (λ _. given_to self.now.given option ≡ []) }

@@ -1,125 +1,201 @@
-//! How the program and its commands are called, for people.
+//! The texts of help: how the program and each command are called.
 
-use crate::command::CommandName;
+use crate::command::{CommandName, Topic};
 
-/// How the program is called.
-const ALL: &str = "usage: yuv info FILE
-       yuv compare FILE FILE
-       yuv copy FILE FILE
-       yuv sum FILE
-       yuv stats FILE
-       yuv show FILE PICTURE
-       yuv diff FILE FILE PICTURE
-       yuv plot FILE FILE PICTURE
-       yuv help [COMMAND], yuv COMMAND --help, yuv --help, yuv -h, yuv --version
+/// The help of the program.
+const ALL: &str = "Usage: yuv COMMAND FILE... [OPTIONS]
 
-info       reports what a stream is, and how many frames it has
-compare    reports how far two streams are apart. Status 0: they show the same,
-           1: they differ
-copy       writes the frames of the first file to the second, in part or changed
-sum        reports a checksum of each frame
-stats      reports what values the samples have
-show       writes a frame as a picture, a PNG
-diff       writes the difference of two frames as a picture
-plot       draws how far two streams are apart, frame by frame, as SVG
+Inspect, compare and convert raw video: YUV4MPEG2 (.y4m) or headerless YUV.
 
-A file is a YUV4MPEG2 stream, and - is standard input or output. Options stand
-anywhere behind the command, as --skip 5 or --skip=5, and all words behind -- are
-files. yuv help COMMAND has the options of a command, and in brackets what holds
-where one is not given.
+Commands:
+  info FILE                 print the properties and the frame count of a video
+  compare FILE1 FILE2       measure how much two videos differ (PSNR, SSIM)
+  copy INPUT OUTPUT         copy a video: cut, crop, halve or convert it
+  sum FILE                  print a CRC-32 checksum of each frame
+  stats FILE                print minimum, maximum and mean of the samples
+  show FILE PICTURE         save a frame as a PNG picture
+  diff FILE1 FILE2 PICTURE  save the difference of two frames as a PNG picture
+  plot FILE1 FILE2 PICTURE  draw PSNR and SSIM of each frame as an SVG chart
+  help [COMMAND]            print this help, or the help of a command
+  help formats              list the names of all video formats
+  version                   print the version
 
-Status 2: something failed. Frames are counted from 1, columns and rows from 0.
+The file name - is standard input or standard output. Options may appear
+anywhere after the command, each at most once, as --skip 5 or --skip=5. All
+arguments after -- are file names. --help after a command prints its help.
+Frames are numbered from 1, columns and rows from 0.
+
+Exit status:
+  0  success; compare and diff: no difference
+  1  compare and diff: a difference
+  2  an error
+
+Examples:
+  yuv info clip.y4m
+  yuv compare source.y4m encoded.y4m --ssim
+  ffmpeg -i in.mp4 -f yuv4mpegpipe - | yuv show - frame.png --frame 20
 ";
 
-/// How `info` is called.
-const INFO: &str = "usage: yuv info FILE [OPTIONS]
+/// The help of `info`.
+const INFO: &str = "Usage: yuv info FILE [OPTIONS]
 
-Reports what a stream is, and how many frames it has. Of a stream that breaks off
-it reports the whole frames, and then the fault, with status 2.
+Print the properties of a video and count its frames. If the stream is damaged,
+print the number of complete frames, then the error.
 
+Example:
+  yuv info clip.y4m
+
+Options (defaults are in parentheses):
 ";
 
-/// How `compare` is called.
-const COMPARE: &str = "usage: yuv compare FILE FILE [OPTIONS]
+/// The help of `compare`.
+const COMPARE: &str = "Usage: yuv compare FILE1 FILE2 [OPTIONS]
 
-Reports how far two streams are apart: the mean squared error and the peak
-signal-to-noise ratio of all planes and of each, the first sample that differs,
-and which stream has more frames. Status 0: they show the same, 1: they differ.
-Frames have the numbers that they have in the first file.
+Measure how much two videos differ. Print the mean squared error (MSE) and the
+peak signal-to-noise ratio (PSNR) of all planes and of each plane, the first
+sample that differs, and which stream has more frames. Frames are numbered as in
+FILE1. The exit status is 0 if all samples are equal, and 1 if they differ. If a
+stream is damaged, report the frames before, then the error. Warn if the headers
+disagree on color range, frame rate, pixel aspect or chroma siting.
 
+Examples:
+  yuv compare source.y4m encoded.y4m --ssim --frames
+  yuv compare source.y4m encoded.y4m --ssim --json > report.json
+
+Options (defaults are in parentheses):
 ";
 
-/// How `copy` is called.
-const COPY: &str = "usage: yuv copy FILE FILE [OPTIONS]
+/// The help of `copy`.
+const COPY: &str = "Usage: yuv copy INPUT OUTPUT [OPTIONS]
 
-Writes the frames of the first file to the second. They go to a new file beside
-the second one, FILE.partial, which replaces it after the last frame, with its
-mode, owner and group. Where owner or group cannot be kept, set-ID bits are
-dropped, and a message says so. Where a run was ended by a signal, FILE.partial is
-left, with the sticky bit as a mark, and the next run takes it over. Where another
-run holds it, this one reads it, or it has no mark, FILE.partial1 to 99 are tried;
-names above 255 bytes are cut. Where no file can be made beside FILE, a message
-says so, and FILE is rewritten. Where it cannot be replaced, as a file that is
-mounted, the new one is copied into it, and stays where that fails. A device, a
-pipe, or what is itself open, as /dev/fd/3, is written as it is: standard output
-from where it stands, other open files at their end, by a position of their own.
-Parameters of FRAME lines are not kept.
+Copy a video, or a part of it. The options are applied in this order: --skip and
+--count, --crop, --half, --format. OUTPUT is replaced after the last frame was
+written; until then the frames are in OUTPUT.partial. OUTPUT must not be INPUT,
+and its extension must fit: .y4m, or .yuv or .raw with --raw-output. A crop that
+swaps the fields of interlaced video is rejected. --force overrides all of this.
 
+Examples:
+  yuv copy in.y4m out.y4m --skip 10 --count 100 --crop 0,0,640,360
+  yuv copy in.yuv out.y4m --raw 1920x1080:nv12@25
+  yuv copy in.y4m out.yuv --raw-output --format p010
+
+Options (defaults are in parentheses):
 ";
 
-/// How `sum` is called.
-const SUM: &str = "usage: yuv sum FILE [OPTIONS]
+/// The help of `sum`.
+const SUM: &str = "Usage: yuv sum FILE [OPTIONS]
 
-Reports the CRC-32 of the samples of each frame as zlib and ffmpeg's framehash
-compute it, samples of more than 8 bits as two bytes, the low one first.
+Print the CRC-32 checksum of the samples of each frame, as zlib and ffmpeg's
+framehash compute it. Samples of more than 8 bits are two bytes, little-endian.
 
+Example:
+  yuv sum clip.y4m --planes
+
+Options (defaults are in parentheses):
 ";
 
-/// How `stats` is called.
-const STATS: &str = "usage: yuv stats FILE [OPTIONS]
+/// The help of `stats`.
+const STATS: &str = "Usage: yuv stats FILE [OPTIONS]
 
-Reports the least and the greatest value of each plane over all frames, the mean,
-and how many samples are outside the nominal range: 16 to 235 for luma and 16 to
-240 for chroma at 8 bits, and in proportion at others.
+Print, for each plane over all frames, the minimum, the maximum and the mean of
+the samples, and how many are outside the nominal range. In limited range at 8
+bits that is 16 to 235 for luma and 16 to 240 for chroma; other depths scale it.
+Samples above the bit depth are counted separately. If the stream is damaged,
+report the frames before, then the error.
 
+Example:
+  yuv stats clip.y4m --skip 100 --count 50
+
+Options (defaults are in parentheses):
 ";
 
-/// How `show` is called.
-const SHOW: &str = "usage: yuv show FILE PICTURE [OPTIONS]
+/// The help of `show`.
+const SHOW: &str = "Usage: yuv show FILE PICTURE [OPTIONS]
 
-Writes a frame as a PNG: in color with 8 bits, or in gray.
+Save a frame as a PNG picture: in color with 8 bits, or one plane in gray. Print
+the color matrix and the color range that were used, on standard error if
+PICTURE is -. PICTURE must not be FILE or a .y4m file, unless --force is given.
 
+Example:
+  yuv show clip.y4m frame.png --frame 20
+
+Options (defaults are in parentheses):
 ";
 
-/// How `diff` is called.
-const DIFF: &str = "usage: yuv diff FILE FILE PICTURE [OPTIONS]
+/// The help of `diff`.
+const DIFF: &str = "Usage: yuv diff FILE1 FILE2 PICTURE [OPTIONS]
 
-Writes the difference of the luma of two frames as a PNG in gray, black where
-they show the same, and reports where planes differ, on standard error where the
-picture goes to standard output. Status 0: they show the same, 1: they differ.
+Save the difference of the luma of two frames as a gray PNG picture, black where
+they are equal. Print where each plane differs, on standard error if PICTURE is
+-. The exit status is 0 if all samples are equal, and 1 if they differ. PICTURE
+must not be an input or a .y4m file, unless --force is given.
 
+Example:
+  yuv diff source.y4m encoded.y4m difference.png --frame 20
+
+Options (defaults are in parentheses):
 ";
 
-/// How `plot` is called.
-const PLOT: &str = "usage: yuv plot FILE FILE PICTURE [OPTIONS]
+/// The help of `plot`.
+const PLOT: &str = "Usage: yuv plot FILE1 FILE2 PICTURE [OPTIONS]
 
-Draws the peak signal-to-noise ratio and the structural similarity of each frame,
-plane by plane, as SVG.
+Draw the PSNR and the SSIM of each frame as an SVG chart, with a line for each
+plane. Identical frames are marked at the top. If a stream is damaged, draw the
+frames before, then report the error. PICTURE must not be an input or a .y4m
+file, unless --force is given.
 
+Example:
+  yuv plot source.y4m encoded.y4m chart.svg
+
+Options (defaults are in parentheses):
 ";
 
-/// Returns how the program is called, or one of its commands, without what its options do: [`CommandName::options`] has these, and
-/// [`OptionName::help`](crate::OptionName::help) says what each does.
-pub fn usage_text(topic: Option<CommandName>) -> &'static str {
+/// The list of formats, which `yuv help formats` prints.
+const FORMATS: &str = "Formats of --raw and --format. Upper case and lower case are the same.
+
+Planar, with 8 bits a sample:
+  4:2:0        yuv420p, I420, 420jpeg; 420, 420mpeg2 and 420paldv differ from
+               them in the chroma siting
+  4:2:2        yuv422p, I422, 422
+  4:4:4        yuv444p, I444, 444
+  4:1:1        yuv411p, 411
+  luma only    gray, gray8, mono
+
+Planar, with 9, 10, 12, 14 or 16 bits a sample; for example with 10:
+  4:2:0        yuv420p10, yuv420p10le, 420p10
+  4:2:2        yuv422p10, yuv422p10le, 422p10
+  4:4:4        yuv444p10, yuv444p10le, 444p10
+  luma only    gray10, gray10le, mono10
+
+Semi-planar: luma, then both chroma planes interleaved:
+  4:2:0        nv12, nv21 (V before U)
+  4:2:2        nv16
+  4:4:4        nv24
+  4:2:0        p010, p012, p016 or p010le, p012le, p016le: 10, 12 or 16 bits, in
+               the high bits of two bytes
+
+Full range, with 8 bits a sample, for --raw only:
+  4:2:0        yuvj420p
+  4:2:2        yuvj422p
+  4:4:4        yuvj444p
+
+Samples of more than 8 bits are two bytes, little-endian. YUV4MPEG2 files are
+planar: to write a semi-planar format, add --raw-output.
+";
+
+/// Returns the help of a topic. Of a command it is the part before the options: [`CommandName::options`] lists these, and
+/// [`OptionName::help`](crate::OptionName::help) returns the help of each.
+pub fn usage_text(topic: Topic) -> &'static str {
     match topic {
-        None => ALL,
-        Some(CommandName::Info) => INFO,
-        Some(CommandName::Compare) => COMPARE,
-        Some(CommandName::Copy) => COPY,
-        Some(CommandName::Sum) => SUM,
-        Some(CommandName::Stats) => STATS,
-        Some(CommandName::Show) => SHOW,
-        Some(CommandName::Diff) => DIFF,
-        Some(CommandName::Plot) => PLOT,
+        Topic::Program => ALL,
+        Topic::Formats => FORMATS,
+        Topic::Command(CommandName::Info) => INFO,
+        Topic::Command(CommandName::Compare) => COMPARE,
+        Topic::Command(CommandName::Copy) => COPY,
+        Topic::Command(CommandName::Sum) => SUM,
+        Topic::Command(CommandName::Stats) => STATS,
+        Topic::Command(CommandName::Show) => SHOW,
+        Topic::Command(CommandName::Diff) => DIFF,
+        Topic::Command(CommandName::Plot) => PLOT,
     }
 }

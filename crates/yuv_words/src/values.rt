@@ -1,9 +1,9 @@
-//! The values of options, each from its text.
-ghost use Rattle.std.specs.Prelude.{List, ℕ, ◌≡◌, ◌≢◌, ◌⊎◌, ◌↔◌, ◌^◌, ◌<◌, ◌∷◌, ◌++◌, decimal, length, slice_index, IsTrue, MatchOption, Option};
+//! The values of options, and how their texts are read.
+ghost use Rattle.std.specs.Prelude.{List, ℕ, ◌≡◌, ◌≢◌, ◌⊎◌, ◌↔◌, ◌^◌, ◌<◌, ◌∷◌, ◌++◌, Bool, decimal, length, slice_index, IsTrue, MatchOption, Option};
 ghost use Rattle.std.specs.Int.{IsInRange};
 ghost use Rattle.v_frame_y4m.specs.declared.header.Ratio.{Ratio as TheRatio};
 ghost use Rattle.v_frame_formats.specs.Formats.{IsFormat};
-ghost use Rattle.yuv_words.specs.Values.{IsColorRange, IsGain, IsMatrix, IsNumber, IsPlane, IsRatio, IsRaw, IsRectangle, SpellsFormat, SpellsRaw, SpellsRectangle};
+ghost use Rattle.yuv_words.specs.Values.{IsColorRange, IsGain, IsMatrix, IsNumber, IsPlane, IsRatio, IsRatioWith, IsRaw, IsRectangle, NamesRaw, SpellsFormat, SpellsRaw, SpellsRectangle};
 ghost use Rattle.yuv_words.specs.declared.command.RawVideo.{RawVideo as TheRaw};
 ghost use Rattle.v_frame_formats.specs.declared.rectangle.Rectangle.{Rectangle as TheRectangle};
 ghost use Rattle.v_frame_formats.specs.declared.format.VideoFormat.{VideoFormat as TheFormat};
@@ -13,9 +13,9 @@ use v_frame_formats::{Component, Rectangle, VideoFormat};
 use v_frame_rgb::{ColorRange, Standard};
 use v_frame_y4m::Ratio;
 
-/// What an option may take.
+/// A type of values that an option takes.
 pub(crate) trait OptionValue: Copy {
-    // A text spells the value.
+    // The text spells the value.
     ghost Spells: { Self → List ℕ → Type 0 };
 
     /// Returns the value that a text spells.
@@ -31,7 +31,7 @@ impl OptionValue for u64 {
     }
 }
 
-/// Returns the number of these decimal digits, where no other text would be written for it.
+/// Returns the number that a text spells: decimal digits without a sign and without leading zeros.
 pub(crate) fn number(text: &str) -> Option<u64>
     ensures { MatchOption result ((n : ℕ) → ¬ (IsNumber n text.now)) (λ n. IsNumber n text.now) }
 {
@@ -44,7 +44,7 @@ pub(crate) fn number(text: &str) -> Option<u64>
     }
 }
 
-/// Returns whether the digits begin as those that are written for a number.
+/// Returns whether digits begin without a plus sign, and without a leading zero.
 fn has_canonical_start(digits: &[u8]) -> bool
     ensures { IsTrue result ↔ ((slice_index digits.now 0 ≢ 43)
         × (slice_index digits.now 0 ≡ 48 → length digits.now ≡ 1)) }
@@ -61,15 +61,16 @@ impl OptionValue for u16 {
 
     fn spelled(text: &str) -> Option<u16> {
         let n = number(text)?;
-        if n > 65535 {
+        if n == 0 || n > 65535 {
             return None;
         }
         Some(n as u16)
     }
 }
 
-/// Cuts a text at its first mark, and returns the number before it and what is after it.
-fn number_before(text: &str, mark: char) -> Option<(u64, &str)>
+/// Cuts a text at the first `mark`. Returns the number before it and the text after it, or `None` if there is no mark or no number
+/// before it.
+pub(crate) fn number_before(text: &str, mark: char) -> Option<(u64, &str)>
     requires ascii { mark < 128 }
     requires apart { ¬ (IsInRange 48 57 mark) }
     ensures { MatchOption result
@@ -89,13 +90,39 @@ impl OptionValue for Ratio {
     ghost Spells = { IsRatio };
 
     fn spelled(text: &str) -> Option<Ratio> {
-        let (numerator, rest) = number_before(text, ':')?;
-        let denominator = number(rest)?;
+        if let Some(ratio) = ratio_with(text, ':') {
+            return Some(ratio);
+        }
+        if let Some(ratio) = ratio_with(text, '/') {
+            return Some(ratio);
+        }
+        let numerator = number(text)?;
+        if numerator == 0 {
+            return None;
+        }
         Some(Ratio {
             numerator,
-            denominator,
+            denominator: 1,
         })
     }
+}
+
+/// Returns the ratio of two numbers above 0 that have this mark between them.
+fn ratio_with(text: &str, mark: char) -> Option<Ratio>
+    requires ascii { mark < 128 }
+    requires apart { ¬ (IsInRange 48 57 mark) }
+    ensures { MatchOption result ((r : TheRatio) → ¬ (IsRatioWith mark r text.now))
+        (λ r. IsRatioWith mark r text.now) }
+{
+    let (numerator, rest) = number_before(text, mark)?;
+    let denominator = number(rest)?;
+    if numerator == 0 || denominator == 0 {
+        return None;
+    }
+    Some(Ratio {
+        numerator,
+        denominator,
+    })
 }
 
 impl OptionValue for Rectangle {
@@ -117,7 +144,7 @@ fn lacks_pixels(width: usize, height: usize) -> bool
     width == 0 || height == 0
 }
 
-/// Returns the rectangle of four numbers with commas between.
+/// Returns the rectangle that four numbers with commas between them spell.
 fn rectangle(text: &str) -> Option<Rectangle>
     ensures { MatchOption result ((r : TheRectangle) → ¬ (SpellsRectangle r text.now))
         (λ r. SpellsRectangle r text.now) }
@@ -146,38 +173,53 @@ impl OptionValue for RawVideo {
     }
 }
 
-/// Returns the size, the format and the rate of headerless raw video.
+/// Returns the headerless video that a text spells, whose size may be 0.
 fn raw_video(text: &str) -> Option<RawVideo>
     ensures { MatchOption result ((raw : TheRaw) → ¬ (SpellsRaw raw text.now))
         (λ raw. SpellsRaw raw text.now) }
 {
     let (width, rest) = number_before(text, 'x')?;
     let (height, rest) = number_before(rest, ':')?;
-    let (format, rate) = format_and_rate(rest)?;
+    let (format, full_range, rate) = format_and_rate(rest)?;
     Some(RawVideo {
         width: width as usize,
         height: height as usize,
         format,
+        full_range,
         rate,
     })
 }
 
-/// Returns the format and the rate behind it, where there is one.
-fn format_and_rate(text: &str) -> Option<(VideoFormat, Option<Ratio>)>
+/// Returns the format, whether its samples have full range, and the rate after an at sign, if there is one.
+fn format_and_rate(text: &str) -> Option<(VideoFormat, bool, Option<Ratio>)>
     ensures { MatchOption result
-        ((format : TheFormat) (rate : Option TheRatio) → ¬ (SpellsFormat format rate text.now))
-        (λ found. SpellsFormat found.0 found.1 text.now) }
+        ((format : TheFormat) (full : Bool) (rate : Option TheRatio) → ¬ (SpellsFormat format full rate text.now))
+        (λ found. SpellsFormat found.0 found.1 found.2 text.now) }
 {
     match text.split_once('@') {
         Some((name, rate)) => {
-            let format = VideoFormat::named(name)?;
+            let (format, full_range) = raw_format(name)?;
             let rate = Ratio::spelled(rate)?;
-            Some((format, Some(rate)))
+            Some((format, full_range, Some(rate)))
         }
         None => {
-            let format = VideoFormat::named(text)?;
-            Some((format, None))
+            let (format, full_range) = raw_format(text)?;
+            Some((format, full_range, None))
         }
+    }
+}
+
+/// Returns the format of a name, and whether its samples have full range.
+pub(crate) fn raw_format(name: &str) -> Option<(VideoFormat, bool)>
+    ensures { MatchOption result ((format : TheFormat) (full : Bool) → ¬ (NamesRaw format full name.now))
+        (λ found. NamesRaw found.0 found.1 name.now) }
+{
+    if let Some(format) = VideoFormat::named(name) {
+        return Some((format, false));
+    }
+    match VideoFormat::full_range_named(name) {
+        Some(format) => Some((format, true)),
+        None => None,
     }
 }
 

@@ -1,24 +1,24 @@
-//! What a single word is.
+//! Classifies single words: file names and options.
 ghost use Rattle.std.specs.Prelude.{List, ℕ, ◌≡◌, ◌↔◌, IsTrue};
 ghost use Rattle.yuv_words.specs.Reading.{IsWord};
 ghost use Rattle.yuv_words.specs.Words.{IsFileWord};
 
 use crate::option_name::OptionName;
 
-/// What a word in front of `--` is.
+/// The kind of a word before `--`.
 #[derive(Clone, Copy)]
 pub(crate) enum Word<'a> {
-    /// A file.
+    /// A file name.
     File,
-    /// An option, whose value is the next word where it takes one.
+    /// An option. If it takes a value, the value is the next word.
     Option(OptionName),
-    /// An option with its value behind an equals sign.
+    /// An option with its value after an equals sign.
     Joined(OptionName, &'a str),
-    /// Neither.
+    /// Neither a file name nor an option.
     Unknown,
 }
 
-/// Returns what a word is.
+/// Returns the kind of a word.
 pub(crate) fn word_of(word: &str) -> Word<'_>
     ensures { IsWord word.now result }
 {
@@ -37,7 +37,7 @@ pub(crate) fn word_of(word: &str) -> Word<'_>
     }
 }
 
-/// Returns whether a word in front of `--` is a file: it does not begin with a dash, or is one.
+/// Returns whether a word before `--` is a file name: it does not begin with a dash, or it is a single dash.
 fn is_file(word: &[u8]) -> bool
     ensures { IsTrue result ↔ IsFileWord word.now }
 {

@@ -45,7 +45,7 @@ fn an_argument_that_is_not_utf8_is_refused() {
     let words = ["info".into(), OsString::from_vec(vec![0xff])];
     let output = Command::new(env!("CARGO_BIN_EXE_yuv")).args(words).output().expect("an output");
     assert_eq!((output.status.code(), output.stdout.as_slice()), (Some(2), &b""[..]));
-    assert!(output.stderr.starts_with(b"yuv: an argument is not UTF-8\n"), "{output:?}");
+    assert!(output.stderr.starts_with(b"yuv: an argument is not valid UTF-8\n"), "{output:?}");
 }
 
 /// Returns a stream of 4:4:4 frames of 8 by 8 pixels with this bit depth, whose planes have one value each.
@@ -64,9 +64,35 @@ fn run(room: &Room, words: &[&str]) -> Output {
 }
 
 /// Returns the chart of a measure, with the values of Y, U and V in the frames from the second one on.
-fn chart(unit: &str, [y, u, v]: [[f64; 2]; 3]) -> String {
+fn chart(title: &str, unit: &str, [y, u, v]: [[f64; 2]; 3]) -> String {
     let series = [("Y", &y), ("U", &u), ("V", &v)].map(|(name, values)| Series { name, values });
-    svg(&Chart { title: "one.y4m and other.y4m", unit, first: 2, series: &series }).expect("drawn")
+    svg(&Chart { title, unit, first: 2, series: &series }).expect("drawn")
+}
+
+/// Returns the head of a plot of this height, up to the names of the files.
+fn head_of(height: usize) -> String {
+    format!(
+        "<svg xmlns=\"http://www.w3.org/2000/svg\" width=\"960\" height=\"{height}\" viewBox=\"0 0 960 {height}\">\n\
+         <rect width=\"960\" height=\"{height}\" fill=\"#ffffff\"/>\n\
+         <text x=\"76\" y=\"15\" font-family=\"sans-serif\" font-size=\"13\" fill=\"#333333\">"
+    )
+}
+
+/// A plot of identical videos says so, marks each frame, and has no SSIM if planes are small. Long names are shortened in the middle.
+#[test]
+fn a_plot_names_its_files_and_says_if_they_are_identical() {
+    let room = Room::new("plots");
+    let output = run(&room, &["plot", "mono_7x5.y4m", "mono_7x5.y4m", "-"]);
+    let text = String::from_utf8_lossy(&output.stdout).into_owned();
+    let head = format!("{}mono_7x5.y4m and mono_7x5.y4m: all frames are identical</text>\n", head_of(220));
+    assert!(output.status.code() == Some(0) && text.starts_with(&head) && !text.contains("SSIM"), "{text}");
+    assert!(text.contains(">marks at the top: infinite, as of identical frames</text>"), "{text}");
+    for (count, shown) in [(48, "n".repeat(44) + ".y4m"), (49, "n".repeat(22) + "..." + &"n".repeat(19) + ".y4m")] {
+        let name = "n".repeat(count - 4) + ".y4m";
+        fs::copy(room.folder().join("mono_7x5.y4m"), room.folder().join(&name)).expect("a copy");
+        let text = String::from_utf8(run(&room, &["plot", &name, "mono_7x5.y4m", "-"]).stdout).expect("text");
+        assert!(text.contains(&format!(">{shown} and mono_7x5.y4m: all frames are identical<")), "{text}");
+    }
 }
 
 /// If flat planes differ by `d`, their PSNR is 20 log10(1023 / d), and their SSIM is that of the means. Both were computed in
@@ -76,22 +102,23 @@ fn a_plot_draws_both_measures_of_each_plane() {
     let room = Room::new("plot");
     let write = |name: &str, frames: &[_]| fs::write(room.folder().join(name), flat_stream(10, frames)).expect("a file");
     write("one.y4m", &[[400, 500, 600]; 3]);
-    write("other.y4m", &[[401, 502, 604], [408, 516, 632], [403, 505, 607]]);
+    write("other.y4m", &[[401, 502, 604], [408, 516, 632], [404, 505, 607]]);
     let words = ["plot", "one.y4m", "other.y4m", "-", "--skip=1"];
     let output = run(&room, &words);
     let ratios = [
-        [42.135712934404324, 50.65508757984995],
+        [42.135712934404324, 48.15631284768395],
         [36.11511302112471, 46.218112587522825],
         [30.09451310784508, 43.29555187395806],
     ];
     let similarities = [
-        [0.9998039609897984, 0.9999720852880895],
+        [0.9998039609897984, 0.9999504977505715],
         [0.9995041235566926, 0.9999504976604107],
         [0.9986516125444492, 0.9999327339456806],
     ];
-    let (ratios, similarities) = (chart("PSNR (dB)", ratios), chart("SSIM", similarities));
-    let head = "<svg xmlns=\"http://www.w3.org/2000/svg\" width=\"960\" height=\"840\" viewBox=\"0 0 960 840\">\n";
-    let wanted = format!("{head}{ratios}<g transform=\"translate(0 420)\">\n{similarities}</g>\n</svg>\n");
+    let (ratios, similarities) = (chart("PSNR", "dB", ratios), chart("SSIM", "", similarities));
+    let head = format!("{}{}</text>\n", head_of(420), "one.y4m and other.y4m");
+    let ratios = format!("<g transform=\"translate(0 20)\">\n{ratios}</g>\n");
+    let wanted = format!("{head}{ratios}<g transform=\"translate(0 220)\">\n{similarities}</g>\n</svg>\n");
     assert_eq!((output.status.code(), String::from_utf8_lossy(&output.stdout)), (Some(0), wanted.into()));
 }
 
@@ -137,7 +164,7 @@ fn chroma_whose_size_is_rounded_up_has_windows() {
         ("411", (28, 8), 224 + 112, false),
         ("444", (8, 7), 168, false),
     ];
-    let refusal = "yuv: one.y4m: --ssim needs planes of at least 8 by 8 samples\n";
+    let refusal = "yuv: one.y4m: --ssim requires planes of at least 8x8 samples\n";
     for (format, size, samples, has_windows) in cases {
         write("one.y4m", format, size, samples);
         let output = run(&room, &["compare", "one.y4m", "one.y4m", "--ssim"]);
@@ -152,7 +179,7 @@ fn chroma_whose_size_is_rounded_up_has_windows() {
     write("large.y4m", "mono", (8, 8), 64);
     let said = |words: [&str; 2]| String::from_utf8(run(&room, &["compare", words[0], words[1], "--ssim"]).stderr).expect("text");
     assert_eq!(said(["one.y4m", "large.y4m"]), refusal);
-    assert_eq!(said(["large.y4m", "one.y4m"]), "yuv: one.y4m: the streams have different sizes\n");
+    assert_eq!(said(["large.y4m", "one.y4m"]), "yuv: the headers disagree on the size: 8x8 and 8x7\nyuv: the headers disagree on the chroma format: luma only and 4:4:4\nyuv: one.y4m: the streams have different sizes\n");
 }
 
 /// The default that the help states for an option is the one that is used.
@@ -164,18 +191,67 @@ fn help_tells_what_nobody_asks_for() {
     let (shown, compared) = (["show", "one.y4m", "-"], ["diff", "one.y4m", "other.y4m", "-"]);
     let cases = [
         (&shown[..], "--frame", "1", "2"),
-        (&shown, "--matrix", "bt709", "bt601"),
-        (&shown, "--range", "limited", "full"),
         (&compared, "--frame", "1", "2"),
         (&compared, "--gain", "8", "16"),
     ];
     for (words, option, value, other) in cases {
         let help = String::from_utf8(run(&room, &["help", words[0]]).stdout).expect("text");
-        let line = help.lines().find(|line| line.starts_with(option)).expect("a line");
+        let line = help.lines().find(|line| line.trim_start().starts_with(option)).expect("a line");
         assert!(line.ends_with(&format!(" ({value})")), "{line}");
         let picture = |value| run(&room, &[words, &[option, value]].concat()).stdout;
         let (wanted, others) = (picture(value), picture(other));
         assert!(run(&room, words).stdout == wanted && others != wanted, "{words:?} {option} {value}");
+    }
+}
+
+/// The colors of a picture are those that the header and the size say, unless an option says others. The program reports them.
+#[test]
+fn colors_are_those_of_the_header_and_the_size() {
+    let room = Room::new("colors");
+    let write = |name: &str, height: usize, range: &str| {
+        let mut stream = format!("YUV4MPEG2 W2 H{height} C444{range}\nFRAME\n").into_bytes();
+        for value in [120, 90, 200] {
+            stream.resize(stream.len() + 2 * height, value);
+        }
+        fs::write(room.folder().join(name), stream).expect("a file");
+    };
+    for (height, matrix, other) in [(2, "bt601", "bt709"), (576, "bt601", "bt709"), (577, "bt709", "bt601"), (1080, "bt709", "bt601")] {
+        for (declared, range) in [("", "limited"), (" XCOLORRANGE=LIMITED", "limited"), (" XCOLORRANGE=FULL", "full"), (" XCOLORRANGE=FULLER", "limited")] {
+            write("one.y4m", height, declared);
+            let shown = run(&room, &["show", "one.y4m", "-"]);
+            assert_eq!(String::from_utf8_lossy(&shown.stderr), format!("matrix {matrix}, range {range}\n"), "{height}{declared}");
+            let asked = |matrix: &str, range: &str| {
+                let output = run(&room, &["show", "one.y4m", "-", "--matrix", matrix, "--range", range]);
+                assert_eq!(String::from_utf8_lossy(&output.stderr), format!("matrix {matrix}, range {range}\n"));
+                output.stdout
+            };
+            assert!(shown.stdout == asked(matrix, range), "{height}{declared}");
+            assert!(shown.stdout != asked(other, range), "{height}{declared}");
+            let other = if range == "full" { "limited" } else { "full" };
+            assert!(shown.stdout != asked(matrix, other), "{height}{declared}");
+        }
+    }
+    let output = run(&room, &["show", "one.y4m", "one.png"]);
+    assert_eq!((output.stdout.as_slice(), output.stderr.as_slice()), (&b"matrix bt709, range limited\n"[..], &b""[..]));
+    let output = run(&room, &["show", "one.y4m", "gray.png", "--plane", "u"]);
+    assert_eq!((output.stdout.as_slice(), output.stderr.as_slice()), (&b""[..], &b""[..]));
+}
+
+/// What was measured before a stream breaks off is one JSON object, and says why.
+#[test]
+fn a_broken_stream_has_a_whole_object() {
+    let room = Room::new("object");
+    let whole = flat_stream(10, &[[400, 500, 600], [9, 99, 999]]);
+    fs::write(room.folder().join("one.y4m"), &whole).expect("a file");
+    fs::write(room.folder().join("late.y4m"), &whole[..whole.len() - 100]).expect("a file");
+    let fault = "frame 2: truncated frame, expected 384 bytes, found 284";
+    for (words, count) in [(["compare", "one.y4m", "late.y4m", "--json"].as_slice(), 1), (&["compare", "late.y4m", "one.y4m", "--json", "--skip", "1"], 0)] {
+        let output = run(&room, words);
+        let (text, error) = (String::from_utf8_lossy(&output.stdout), String::from_utf8_lossy(&output.stderr));
+        assert_eq!((output.status.code(), error.as_ref()), (Some(2), format!("yuv: late.y4m: {fault}\n").as_str()));
+        assert!(text.starts_with("{\n  \"frames\": [") && text.ends_with("\n}\n"), "{text}");
+        assert!(text.contains(&format!("],\n  \"error\": \"{fault}\",\n  \"count\": {count}")), "{text}");
+        assert_eq!((text.matches('{').count(), text.matches("\"frame\": ").count()), (text.matches('}').count(), count), "{text}");
     }
 }
 
@@ -217,7 +293,7 @@ fn semi_planar_video_has_no_sums_of_planes() {
         let output = run(&room, &["sum", "--planes", "--raw", &format!("2x2:{format}"), "one.yuv"]);
         let error = String::from_utf8_lossy(&output.stderr);
         assert_eq!(output.status.code(), Some(2), "{format}");
-        assert_eq!((output.stdout.len(), error.as_ref()), (0, "yuv: one.yuv: --planes needs video in planes\n"), "{format}");
+        assert_eq!((output.stdout.len(), error.as_ref()), (0, "yuv: one.yuv: --planes requires planar video\n"), "{format}");
     }
 }
 
@@ -230,7 +306,7 @@ fn standard_output_has_the_name_that_it_was_given_by() {
         let mut program = Command::new(env!("CARGO_BIN_EXE_yuv"));
         let output = program.args(["copy", "mono_7x5.y4m", name]).current_dir(room.folder()).stdout(full).output().expect("an output");
         let error = String::from_utf8_lossy(&output.stderr);
-        assert_eq!((output.status.code(), error.as_ref()), (Some(2), format!("yuv: {shown}: write failed: no storage space\n").as_str()));
+        assert_eq!((output.status.code(), error.as_ref()), (Some(2), format!("yuv: {shown}: write failed: No space left on device\n").as_str()));
     }
 }
 

@@ -1,6 +1,7 @@
 //! Tests the error messages: each row of the table is the message of a value of its variant. tools/check-error-texts tests that
 //! every variant has a row.
 
+use crate::generated::yuv_files::{FileKind, SystemError, TargetError};
 use crate::generated::yuv_pictures::PictureError;
 use crate::generated::yuv_system::{Fault, NothingTaken};
 use crate::generated::yuv_words::{CommandName, OptionName, UsageError};
@@ -56,6 +57,35 @@ fn problems_of_streams() {
     assert_eq!(rows.collect::<Vec<_>>(), shown);
 }
 
+/// The words are those of `strerror` of the C library, in English, as `perl -e 'print $!'` prints them.
+#[test]
+fn errors_of_the_system() {
+    let kinds = [
+        ErrorKind::NotFound,
+        ErrorKind::PermissionDenied,
+        ErrorKind::BrokenPipe,
+        ErrorKind::AlreadyExists,
+        ErrorKind::NotADirectory,
+        ErrorKind::IsADirectory,
+        ErrorKind::ReadOnlyFilesystem,
+        ErrorKind::StaleNetworkFileHandle,
+        ErrorKind::InvalidInput,
+        ErrorKind::StorageFull,
+        ErrorKind::NotSeekable,
+        ErrorKind::QuotaExceeded,
+        ErrorKind::FileTooLarge,
+        ErrorKind::ResourceBusy,
+        ErrorKind::ExecutableFileBusy,
+        ErrorKind::CrossesDevices,
+        ErrorKind::Interrupted,
+        ErrorKind::OutOfMemory,
+        ErrorKind::TimedOut,
+    ];
+    let shown = kinds.map(|kind| format!("yuv_files SystemError | {}", SystemError { kind }));
+    let rows: Vec<&str> = TABLE.lines().filter(|row| row.starts_with("yuv_files SystemError ")).collect();
+    assert_eq!(shown.as_slice(), rows);
+}
+
 #[test]
 fn errors_of_pictures() {
     compare(
@@ -94,16 +124,28 @@ fn faults_of_commands() {
             ("Header", Fault::Header(missing())),
             ("Stream", Fault::Stream(forbidden())),
             ("Stream", Fault::Stream(after_two(Problem::TooManyPixels(33_177_600), None))),
+            ("Stream", Fault::Stream(after_two(Problem::SemiPlanar, None))),
+            ("Stream", Fault::Stream(after_two(Problem::OtherDepth, None))),
             ("Report", Fault::Report(unwritten)),
             ("Create", Fault::Create(ErrorKind::PermissionDenied)),
             ("Replace", Fault::Replace(ErrorKind::PermissionDenied)),
             ("Rewrite", Fault::Rewrite(ErrorKind::StorageFull)),
+            ("Target", Fault::Target(FileKind::Png, TargetError::Input)),
+            ("Target", Fault::Target(FileKind::Svg, TargetError::Stream)),
+            ("Target", Fault::Target(FileKind::Y4m, TargetError::OtherKind(FileKind::Raw))),
+            ("Target", Fault::Target(FileKind::Raw, TargetError::OtherKind(FileKind::Y4m))),
+            ("Target", Fault::Target(FileKind::Y4m, TargetError::OtherKind(FileKind::Container))),
+            ("Target", Fault::Target(FileKind::Y4m, TargetError::OtherKind(FileKind::Png))),
+            ("Target", Fault::Target(FileKind::Png, TargetError::OtherKind(FileKind::OtherPicture))),
+            ("Target", Fault::Target(FileKind::Svg, TargetError::OtherKind(FileKind::Png))),
             ("Picture", Fault::Picture(full)),
             ("Picture", Fault::Picture(PictureError::NoPlane)),
             ("Nothing", Fault::Nothing(Place::First, nothing(9, None))),
             ("Nothing", Fault::Nothing(Place::First, nothing(0, Some(0)))),
             ("NoFrame", Fault::NoFrame(Place::First, 2)),
+            ("NoFrame", Fault::NoFrame(Place::First, 1)),
             ("FrameZero", Fault::FrameZero),
+            ("SwapsFields", Fault::SwapsFields { place: Place::First, from: 2, nearest: 4 }),
             ("NoWindow", Fault::NoWindow(Place::First)),
         ],
     );
@@ -128,11 +170,17 @@ fn errors_of_words() {
             ("MissingValue", UsageError::MissingValue(OptionName::Crop)),
             ("MissingValue", UsageError::MissingValue(OptionName::Format)),
             ("MissingValue", UsageError::MissingValue(OptionName::Rate)),
+            ("MissingValue", UsageError::MissingValue(OptionName::Aspect)),
             ("MissingValue", UsageError::MissingValue(OptionName::Matrix)),
             ("MissingValue", UsageError::MissingValue(OptionName::Range)),
             ("MissingValue", UsageError::MissingValue(plane)),
             ("NeedlessValue", UsageError::NeedlessValue { option: half, value: "2" }),
             ("NotAValue", UsageError::NotAValue { option: plane, word: "w" }),
+            ("NotAValue", UsageError::NotAValue { option: raw, word: "640X360" }),
+            ("NotAValue", UsageError::NotAValue { option: raw, word: "0x48:420" }),
+            ("NotAValue", UsageError::NotAValue { option: raw, word: "64x48" }),
+            ("NotAValue", UsageError::NotAValue { option: OptionName::RawSecond, word: "64x48:421" }),
+            ("NotAValue", UsageError::NotAValue { option: raw, word: "64x48:420@1:0" }),
             ("TwoForms", UsageError::TwoForms),
             ("MissingFile", UsageError::MissingFile),
             ("ExtraFile", UsageError::ExtraFile("c.y4m")),

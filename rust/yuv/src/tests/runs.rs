@@ -40,7 +40,7 @@ fn kept_runs_write_what_they_should() {
     for case in &cases {
         check(&rt, &room, case);
     }
-    assert_eq!(cases.len(), 314);
+    assert_eq!(cases.len(), 379);
 }
 
 /// Makes a run and checks its output.

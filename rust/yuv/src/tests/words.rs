@@ -2,7 +2,7 @@
 
 use crate::generated::yuv_reports::ReportForm;
 use crate::generated::yuv_words::{
-    Call, Command, CommandName, Options, RawVideo, UsageError, read_command, usage_text,
+    Call, Command, CommandName, Options, RawVideo, Topic, UsageError, read_command, usage_text,
 };
 use v_frame_proved::formats::Rectangle;
 use v_frame_proved::y4m::Ratio;
@@ -28,8 +28,8 @@ fn calls_ask_for_what_they_should() {
 fn help_has_the_options_that_are_taken() {
     let names = ["info", "compare", "copy", "sum", "stats", "show", "diff", "plot"];
     let shown = names.map(|name| {
-        let Ok(Command::Help(Some(topic))) = read_command(&["help", name]) else { panic!("{name}") };
-        let words = topic.options().iter().map(|option| option.help().split(' ').next().unwrap_or_default());
+        let Ok(Command::Help(Topic::Command(topic))) = read_command(&["help", name]) else { panic!("{name}") };
+        let words = topic.options().iter().map(|option| option.help().split_whitespace().next().unwrap_or_default());
         words.collect::<Vec<_>>()
     });
     for (name, own) in names.iter().zip(&shown) {
@@ -47,7 +47,7 @@ fn the_first_file_too_many_is_told() {
         ("info a b c d", "b"), ("stats a --count 1 b c d e", "b"), ("sum a -- b c d", "b"), ("show -- a b c d", "c"), ("copy a b -- c", "c")] {
         let words: Vec<&str> = line.split(' ').collect();
         let Err(error) = read_command(&words) else { panic!("{line}") };
-        assert_eq!(error.to_string(), format!("one file too many: {extra}"), "{line}");
+        assert_eq!(error.to_string(), format!("too many files: unexpected '{extra}'"), "{line}");
     }
 }
 
@@ -55,7 +55,7 @@ fn the_first_file_too_many_is_told() {
 fn told_of(command: &Command<'_>) -> String {
     let Call { name, first, second, third, options } = match command {
         Command::Help(topic) => {
-            let options = topic.map_or(&[][..], |command| command.options());
+            let options = if let Topic::Command(command) = topic { command.options() } else { &[] };
             let texts = options.iter().map(|option| option.help());
             return usage_text(*topic).to_string() + &texts.collect::<String>();
         }
@@ -104,6 +104,8 @@ fn told_of_options(options: &Options) -> String {
         flag("raw output", options.raw_output),
         number("max pixels", options.max_pixels),
         flag("progress", options.progress),
+        flag("force", options.force),
+        flag("salvage", options.salvage),
     ]
     .concat()
 }
@@ -133,7 +135,8 @@ fn raw(name: &str, option: Option<RawVideo>) -> String {
     let told = |it: RawVideo| {
         let (chroma, bits) = (it.format.subsampling(), it.format.bit_depth());
         let format = format!("{chroma:?} {bits} bits, {}", it.format.short_name());
-        format!("{name} {} by {}, {format}", it.width, it.height)
+        let range = if it.full_range { ", full range" } else { "" };
+        format!("{name} {} by {}, {format}{range}", it.width, it.height)
     };
     some(option, told) + &option.map_or(String::new(), |it| ratio("  rate", it.rate))
 }

@@ -19,13 +19,13 @@ lies first span step start count k is near counted within =
 
 pub overflow_mul-k : goal.overflow_mul-k
 overflow_mul-k c =
-    let on = lies c.args.first c.args.span c.args.step _ _ c.loop-k.k c.first_mark-start.ensures.value
+    let on = lies c.args.first c.args.last c.args.step _ _ c.loop-k.k c.first_mark-start.ensures.value
     c.first_mark-start.ensures.bound c.mark_count-k-end.ensures c.loop-k-test.true in
     omega (arith, on)
 
 pub overflow_add-start : goal.overflow_add-start
 overflow_add-start c =
-    let on = lies c.args.first c.args.span c.args.step _ _ c.loop-k.k c.first_mark-start.ensures.value
+    let on = lies c.args.first c.args.last c.args.step _ _ c.loop-k.k c.first_mark-start.ensures.value
     c.first_mark-start.ensures.bound c.mark_count-k-end.ensures c.loop-k-test.true in
     omega (arith, on)
 

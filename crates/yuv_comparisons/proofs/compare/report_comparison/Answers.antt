@@ -23,10 +23,10 @@ returns-clause-ended g c =
     let stays : IsAsked contents said first.scale start first → IsAsked contents said first.scale start mid =
     elim (cases_eq (depth_of c.args.first.now.header.color) 8) [
       | inl eight ↦ λ asked. stays_asked contents one_byte said first.scale start _ first mid
-          (c.in_ok-found.ensures.bytes_taken eight).1 asked
+          (c.in-Ok.ensures.bytes_taken eight).1 asked
       | inr more ↦ λ asked. stays_asked contents two_bytes said first.scale start _ first mid
-          (c.in_ok-found.ensures.words_taken more).1 asked
+          (c.in-Ok.ensures.words_taken more).1 asked
     ] in
     report_ends contents (contents c.args.out) c.args.out c.into_out.result first mid c.end-2.new.self said options.exact
-    start c.in_ok-found.found refl c.new-observer.ensures.out form exact before (sym c.into_out.ensures) stays
+    start c.in-Ok.found refl c.new-observer.ensures.out form exact before (sym c.into_out.ensures) stays
     c.in_ok-end.ensures

@@ -1,13 +1,15 @@
 -- What is shown is the picture that was read, or a part of it.
-use Rattle.std.proofs.Common.{◌≡◌, ◌∙◌, ap, refl}
+use Rattle.std.proofs.Common.{◌≡◌, ◌∙◌, ap, refl, subst}
 use Rattle.std.proofs.lemmas.Result.{IfOk-weaker}
-use Rattle.std.specs.Prelude.{IsSomeAnd}
+use Rattle.std.specs.Prelude.{IfOk, IsSomeAnd}
 use Rattle.v_frame.specs.Prelude.{tables_of, ChromaSubsampling, Frame}
 use Rattle.v_frame_png.specs.Prelude.{HasFile}
 use Rattle.v_frame_y4m.specs.Color.{subsampling_of}
 use Rattle.v_frame_streams.specs.Conversions.{format_of, Format}
 use Rattle.v_frame_streams.specs.Prelude.{bytes_left, cropped, stream_of}
-use Rattle.yuv_copies.specs.Shows.{drawing_asked, ShowsFrame}
+use Rattle.v_frame_y4m.specs.declared.header.StreamHeader.{StreamHeader}
+use Rattle.yuv_copies.specs.Shows.{colors_asked, drawing_asked, drawing_of, ShowsFrame}
+use Rattle.yuv_pictures.specs.declared.colors.Colors.{Colors}
 use Rattle.yuv_copies.proofs.Showing.{part_sizes}
 use Rattle.yuv_copies.proofs.show.show_frame.Goals as goal
 
@@ -22,8 +24,12 @@ returns-in-None g c =
     let read = c.in_ok-picture.ensures in
     let frame = c.frame.result.now in
     let same = c.frame.ensures.value in
+    let asked : c.colors_of-colors.result ≡ colors_asked options source.header =
+    c.colors_of-colors.ensures ∙ ap (λ (h : StreamHeader). colors_asked options h) c.header.ensures in
+    let drawn = subst (λ (k : Colors). IfOk c.write_picture.result (λ new. IsSomeAnd (drawing_of form frame options.plane k)
+    (λ drawing. HasFile contents start new drawing.0 drawing.1))) asked c.write_picture.ensures.file in
     IfOk-weaker c.write_picture.result
-    (λ new. IsSomeAnd (drawing_asked form frame options) (λ drawing. HasFile contents start new drawing.0 drawing.1))
+    (λ new. IsSomeAnd (drawing_asked form frame options source.header) (λ drawing. HasFile contents start new drawing.0 drawing.1))
     (ShowsFrame (stream_of source) (bytes_left g.R.Read.remaining source)
     (bytes_left g.R.Read.remaining c.read_picture.new.source) options form contents start)
     (λ new file. record {
@@ -34,7 +40,7 @@ returns-in-None g c =
       sizes = rw (c.in-None.is, same) read.sizes;
       format = ap (λ (f : Frame g.row.T.Denot). format_of f) same ∙ read.format;
       file = file;
-    }) c.write_picture.ensures.file
+    }) drawn
 
 pub returns : goal.returns
 returns g c =
@@ -49,8 +55,12 @@ returns g c =
     let made = c.in_ok-frame-in-Some.frame in
     let cut = c.in_ok-frame-in-Some.ensures in
     let same : picture.frame.subsampling ≡ subsampling_of source.header.color = ap (λ (f : Format). f.0) read.format in
+    let asked : c.colors_of-colors.result ≡ colors_asked options source.header =
+    c.colors_of-colors.ensures ∙ ap (λ (h : StreamHeader). colors_asked options h) c.header.ensures in
+    let drawn = subst (λ (k : Colors). IfOk c.write_picture-in-Some.result (λ new. IsSomeAnd (drawing_of form made options.plane k)
+    (λ drawing. HasFile contents start new drawing.0 drawing.1))) asked c.write_picture-in-Some.ensures.file in
     IfOk-weaker c.write_picture-in-Some.result
-    (λ new. IsSomeAnd (drawing_asked form made options) (λ drawing. HasFile contents start new drawing.0 drawing.1))
+    (λ new. IsSomeAnd (drawing_asked form made options source.header) (λ drawing. HasFile contents start new drawing.0 drawing.1))
     (ShowsFrame (stream_of source) (bytes_left g.R.Read.remaining source)
     (bytes_left g.R.Read.remaining c.read_picture.new.source) options form contents start)
     (λ new file. record {
@@ -62,4 +72,4 @@ returns g c =
       sizes = rw (c.in-Some.is) (part_sizes part source.header picture.frame made same read.sizes cut.unpadded);
       format = cut.format ∙ read.format;
       file = file;
-    }) c.write_picture-in-Some.ensures.file
+    }) drawn

@@ -5,4 +5,4 @@ use Rattle.yuv_facts.proofs.statistics.outside.Given as goal
 
 abbrev pub invariant-loop-value : goal.invariant-loop-value
 invariant-loop-value l =
-    l.outside ≡ min (outside_from l.range.least l.range.greatest 0 (take l.value l.counts)) (2 ^ 64 - 1)
+    l.outside ≡ min (outside_from l.range 0 (take l.value l.counts)) (2 ^ 64 - 1)

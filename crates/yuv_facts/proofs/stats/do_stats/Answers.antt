@@ -4,6 +4,7 @@ use Rattle.v_frame.specs.Prelude.{one_byte, two_bytes}
 use Rattle.v_frame_streams.specs.Prelude.{bytes_left, sizes_in}
 use Rattle.yuv_system.specs.InputFiles.{bytes_of_input}
 use Rattle.v_frame_y4m.specs.Color.{depth_of}
+use Rattle.yuv_system.specs.Headers.{used_range}
 use Rattle.yuv_facts.specs.Statistics.{ReportsValues}
 use Rattle.yuv_facts.proofs.stats.do_stats.Goals as goal
 
@@ -31,9 +32,9 @@ returns g c =
         found = found;
         bytes = λ eight. subst (λ (o : g.row.O.Denot). ReportsValues one_byte (256 ^ 1) source.container source.frame_len
             source.layout (sizes_in source.header) left rest (contents o) has c.args.call.now.options
-            (depth_of source.header.color) found) output (c.in_ok-found.ensures.bytes eight);
+            (used_range c.args.call.now.options.range source.header) (depth_of source.header.color) found) output (c.in_ok-found.ensures.bytes eight);
         words = λ more. subst (λ (o : g.row.O.Denot). ReportsValues two_bytes (256 ^ 2) source.container source.frame_len
             source.layout (sizes_in source.header) left rest (contents o) has c.args.call.now.options
-            (depth_of source.header.color) found) output (c.in_ok-found.ensures.words more);
+            (used_range c.args.call.now.options.range source.header) (depth_of source.header.color) found) output (c.in_ok-found.ensures.words more);
       },
     )

@@ -16,4 +16,5 @@ returns-in_err-format c = rw c.from_residual-in_err-format.ensures (λ raw is.
     c.in_ok-width.ensures is.width is.spelled in
     let height = rest_is 58 colon_apart c.in_ok-width.rest.now c.in_ok-height.rest.now c.in_ok-height.height raw.height _
     c.in_ok-height.ensures is.height width in
-    c.in_err-format.ensures raw.format raw.rate (subst (SpellsFormat raw.format raw.rate) (sym height) is.format))
+    c.in_err-format.ensures raw.format raw.full_range raw.rate
+    (subst (SpellsFormat raw.format raw.full_range raw.rate) (sym height) is.format))

@@ -1,9 +1,6 @@
--- A text spells one number at most.
-use Rattle.std.proofs.Common.{◌∙◌, sym, arith}
-use Rattle.std.proofs.lemmas.Fmt.{decimal_injective}
+-- The number is 0, or it is too large.
+use Rattle.yuv_words.proofs.Said.{no_gain}
 use Rattle.yuv_words.proofs.values.U16OptionValue.spelled.Goals as goal
 
-pub returns-then-n-gt65535 : goal.returns-then-n-gt65535
-returns-then-n-gt65535 c = λ n is.
-    let same = decimal_injective n c.in_ok-n.n (omega (arith, is.1)) c.in_ok-n.ensures.1 (sym is.0 ∙ c.in_ok-n.ensures.0) in
-    omega (arith, same, is.1, c.if-n-gt65535.true)
+pub returns-then-n-eq0 : goal.returns-then-n-eq0
+returns-then-n-eq0 c = no_gain c.args.text.now c.in_ok-n.n c.in_ok-n.ensures c.then-n-eq0.either
