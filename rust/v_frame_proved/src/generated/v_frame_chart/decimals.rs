@@ -20,7 +20,7 @@ fn push_sign(text: &mut String, negative: bool) -> Result<(), AllocError> {
     if negative { text.try_push_str("-") } else { Ok(()) }
 }
 
-/// Appends a size times a power of ten: with a point where the power is small, and else with an exponent.
+/// Appends a size times a power of ten: with a decimal point if the power is small, and otherwise with an exponent.
 fn push_size(text: &mut String, size: u64, power: Power) -> Result<(), AllocError> {
     match power {
         Power::Times(p) => {
@@ -40,7 +40,7 @@ fn push_size(text: &mut String, size: u64, power: Power) -> Result<(), AllocErro
     }
 }
 
-/// Appends a size with an exponent, but zero as it is.
+/// Appends a size with an exponent, or `0` if the size is 0.
 #[inline]
 fn push_exponent(text: &mut String, size: u64, letters: &str, p: u32) -> Result<(), AllocError> {
     if size == 0 {

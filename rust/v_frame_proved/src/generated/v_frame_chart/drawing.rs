@@ -3,48 +3,50 @@
 
 use alloc::string::String;
 use crate::generated::v_frame_chart::columns::summaries;
+use crate::generated::v_frame_chart::endless::{either, has_endless, push_endless};
 use crate::generated::v_frame_chart::frames::{across_of, frame_step, push_frames};
 use crate::generated::v_frame_chart::grid::push_grid;
 use crate::generated::v_frame_chart::lines::push_drawn;
 use crate::generated::v_frame_chart::marks::marks;
 use crate::generated::v_frame_chart::room::scale_of;
 use crate::generated::v_frame_chart::scale::Scale;
-use crate::generated::v_frame_chart::words::{color_of, push_closing, push_head, push_legend};
+use crate::generated::v_frame_chart::words::{color_of, push_closing, push_head, push_legend, push_text};
 use crate::support::AllocError;
 use std::io;
 use crate::generated::v_frame_bytes::send;
 
-/// A number for each frame of a stream.
+/// A number for each frame of a stream, and a name.
 #[derive(Clone, Copy, Debug, PartialEq)]
 pub struct Series<'a> {
-    /// What the legend says.
+    /// The name, for the legend.
     pub name: &'a str,
-    /// The numbers, one for each frame. One that is infinite or not a number leaves a gap.
+    /// The numbers, one for each frame. A number that is infinite or not a number leaves a gap in the line. Plus infinity has a
+    /// mark at the top.
     pub values: &'a [f64],
 }
 
-/// What a chart shows.
+/// A chart of series over the same frames.
 #[derive(Clone, Copy, Debug, PartialEq)]
 pub struct Chart<'a> {
-    /// What stands above it.
+    /// The title.
     pub title: &'a str,
-    /// What the numbers are, as "PSNR (dB)".
+    /// The unit of the numbers, as "dB".
     pub unit: &'a str,
-    /// The number of the first frame, as 0 or 1.
+    /// The number of the first frame; most programs count from 0 or 1.
     pub first: u64,
     /// The series, in the order of their colors.
     pub series: &'a [Series<'a>],
 }
 
-/// Columns of pixels between the sides of the lines.
+/// The number of columns of pixels between the left and the right end of the axis of frames.
 const COLUMNS: usize = 848;
 
 /// Writes a chart as SVG.
 ///
 /// # Errors
 ///
-/// An error of the writer, an interrupted write too, which is not tried again, and `WriteZero` where it took no bytes. Then a
-/// beginning of the file was written. `OutOfMemory` where a request for memory was refused. Then nothing was written.
+/// Returns the error of the writer, even if a write was interrupted, or `WriteZero` if the writer accepts no bytes; a part of the
+/// file is then written. Returns `OutOfMemory` if there is not enough memory; nothing is then written.
 #[inline]
 pub fn write_svg<W: io::Write>(out: &mut W, chart: &Chart<'_>) -> io::Result<()> {
     let scale = scale_of(chart.series);
@@ -59,7 +61,7 @@ pub fn write_svg<W: io::Write>(out: &mut W, chart: &Chart<'_>) -> io::Result<()>
 ///
 /// # Errors
 ///
-/// [`AllocError`] where a request for memory was refused.
+/// Returns [`AllocError`] if there is not enough memory.
 #[inline]
 pub fn svg(chart: &Chart<'_>) -> Result<String, AllocError> {
     let scale = scale_of(chart.series);
@@ -77,13 +79,72 @@ fn push_chart(
     step: u64,
 ) -> Result<(), AllocError> {
     let span = span_of(chart.series);
+    let last = frames_of(chart.series).saturating_sub(1) as u64;
     push_head(text, chart.title, chart.unit)?;
     push_grid(text, scale)?;
-    push_frames(text, chart.first, span, step)?;
+    push_frames(text, chart.first, span, last, step)?;
     push_all_series(text, chart.series, scale, span)?;
     push_legend(text, chart.series)?;
+    push_notes(text, chart.series)?;
     push_closing(text)?;
     Ok(())
+}
+
+/// Appends notes on the marks at the top and on the bands, if there are any.
+#[inline]
+fn push_notes(text: &mut String, series: &[Series<'_>]) -> Result<(), AllocError> {
+    push_endless_note(text, series)?;
+    push_band_note(text, series)?;
+    Ok(())
+}
+
+/// Appends a note on the marks at the top, if there are any.
+#[inline]
+fn push_endless_note(text: &mut String, series: &[Series<'_>]) -> Result<(), AllocError> {
+    push_note_if(
+        text,
+        has_endless_series(series),
+        ENDLESS_PLACE,
+        ENDLESS_NOTE,
+    )
+}
+
+/// Appends a note on the bands, if there are any.
+#[inline]
+fn push_band_note(text: &mut String, series: &[Series<'_>]) -> Result<(), AllocError> {
+    push_note_if(text, COLUMNS < frames_of(series), BAND_PLACE, BAND_NOTE)
+}
+
+/// Where the note on the marks at the top is.
+const ENDLESS_PLACE: &str = "x=\"924\" y=\"16\" text-anchor=\"end\"";
+
+/// The note on the marks at the top.
+const ENDLESS_NOTE: &str = "marks at the top: infinite, as of identical frames";
+
+/// Where the note on the bands is.
+const BAND_PLACE: &str = "x=\"924\" y=\"33\" text-anchor=\"end\"";
+
+/// The note on the bands.
+const BAND_NOTE: &str = "line: mean; band: minimum to maximum";
+
+/// Appends a note, if it applies.
+#[inline]
+fn push_note_if(text: &mut String, applies: bool, place: &str, note: &str) -> Result<(), AllocError> {
+    if applies {
+        push_text(text, place, note)
+    } else {
+        Ok(())
+    }
+}
+
+/// Returns whether one of the series has an infinite value.
+#[inline]
+fn has_endless_series(series: &[Series<'_>]) -> bool {
+    let mut found = false;
+    for one in series {
+        found = either(found, has_endless(one.values));
+    }
+    found
 }
 
 /// Returns how many frames the axis has behind the first: one at least.
@@ -127,5 +188,7 @@ fn push_series(
     let values = series.values;
     let columns = summaries(values, COLUMNS)?;
     let drawn = marks(&columns, values.len(), across_of(span), scale.axis())?;
-    push_drawn(text, &drawn, COLUMNS < values.len(), color_of(k))
+    push_endless(text, values, values.len().min(COLUMNS), across_of(span), k)?;
+    push_drawn(text, &drawn, COLUMNS < values.len(), color_of(k))?;
+    Ok(())
 }

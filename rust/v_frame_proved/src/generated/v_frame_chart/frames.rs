@@ -9,7 +9,7 @@ use crate::generated::v_frame_chart::places::Place;
 use crate::support::AllocError;
 use crate::support::numbers::nearest_u64_to_f64;
 
-/// Returns the axis from the first frame over so many more.
+/// Returns the axis from the first frame to the frame `span` frames after it.
 #[inline]
 pub(crate) fn across_of(span: u64) -> Axis {
     Axis {
@@ -20,7 +20,7 @@ pub(crate) fn across_of(span: u64) -> Axis {
     }
 }
 
-/// Returns the least of 1, 2 and 5 times a power of ten of which a span has at most eight.
+/// Returns the least of 1, 2, 5, 10, 20, 50 and so on that fits at most eight times into a span.
 #[inline]
 pub(crate) fn frame_step(span: u64) -> u64 {
     for k in 0..ROUND_NUMBERS {
@@ -32,7 +32,7 @@ pub(crate) fn frame_step(span: u64) -> u64 {
     span
 }
 
-/// How many of the numbers 1, 2, 5, 10 and so on there are, up to one that is an eighth of any span.
+/// The number of steps 1, 2, 5, 10 and so on, up to an eighth of the greatest span.
 const ROUND_NUMBERS: u32 = 57;
 
 /// Returns one of the numbers 1, 2, 5, 10 and so on.
@@ -46,42 +46,50 @@ fn round_number(k: u32) -> u64 {
     }
 }
 
-/// Appends both axes, and a mark and the number of each frame whose number is a multiple of the step.
+/// Appends both axes, and a mark and the number of each frame, up to `last` after the first, whose number is a multiple of `step`. The
+/// axis extends over `span` frames after the first, which is more than `last` if there is only one frame.
 #[inline]
 pub(crate) fn push_frames(
     text: &mut String,
     first: u64,
     span: u64,
+    last: u64,
     step: u64,
 ) -> Result<(), AllocError> {
     push_axis_lines(text)?;
-    push_frame_marks(text, first, span, step)?;
+    push_frame_marks(text, first, span, last, step)?;
     Ok(())
 }
 
 /// Appends both axes.
 #[inline]
 fn push_axis_lines(text: &mut String) -> Result<(), AllocError> {
-    text.try_push_str("<path d=\"M76 64V368H924\" fill=\"none\" stroke=\"#333333\"/>\n")
+    text.try_push_str("<path d=\"M76 50V160H924\" fill=\"none\" stroke=\"#333333\"/>\n")
 }
 
 /// Appends a mark and the number of each frame whose number is a multiple of the step.
-fn push_frame_marks(text: &mut String, first: u64, span: u64, step: u64) -> Result<(), AllocError> {
+fn push_frame_marks(
+    text: &mut String,
+    first: u64,
+    span: u64,
+    last: u64,
+    step: u64,
+) -> Result<(), AllocError> {
     let across = across_of(span);
     let start = first_mark(first, step);
-    for k in 0..mark_count(first, span, step) {
+    for k in 0..mark_count(first, last, step) {
         push_frame_mark(text, across, first, start + k * step)?;
     }
     Ok(())
 }
 
-/// Returns how many frames behind the first the first multiple of the step is.
+/// Returns the distance in frames from the first frame to the first multiple of the step.
 #[inline]
 fn first_mark(first: u64, step: u64) -> u64 {
     (step - first % step) % step
 }
 
-/// Returns how many multiples of the step there are.
+/// Returns the number of multiples of the step.
 #[inline]
 fn mark_count(first: u64, span: u64, step: u64) -> u64 {
     let start = first_mark(first, step);
@@ -92,7 +100,7 @@ fn mark_count(first: u64, span: u64, step: u64) -> u64 {
     }
 }
 
-/// Appends the mark and the number of a frame, so many behind the first.
+/// Appends the mark and the number of the frame `index` frames after the first.
 fn push_frame_mark(
     text: &mut String,
     across: Axis,
@@ -109,7 +117,7 @@ fn push_frame_mark(
 fn push_frame_words(text: &mut String, x: Place, number: u128) -> Result<(), AllocError> {
     write!(
         text,
-        "<path d=\"M{x} 368V373\" stroke=\"#333333\"/>\n\
-         <text x=\"{x}\" y=\"387\" text-anchor=\"middle\">{number}</text>\n"
+        "<path d=\"M{x} 160V165\" stroke=\"#333333\"/>\n\
+         <text x=\"{x}\" y=\"177\" text-anchor=\"middle\">{number}</text>\n"
     )
 }

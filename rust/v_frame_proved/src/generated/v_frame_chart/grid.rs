@@ -27,7 +27,7 @@ fn push_grid_line(text: &mut String, scale: &Scale, k: u32) -> Result<(), AllocE
     Ok(())
 }
 
-/// Appends a line of the grid, and what stands in front of its label.
+/// Appends a line of the grid, and the start tag of its label.
 #[inline]
 fn push_line_head(text: &mut String, y: Place) -> Result<(), AllocError> {
     write!(

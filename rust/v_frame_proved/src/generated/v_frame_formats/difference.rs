@@ -3,14 +3,14 @@
 
 use crate::generated::v_frame_formats::component::Component;
 
-/// A pixel that two frames show differently.
+/// A pixel whose values in two frames differ.
 #[derive(Debug, Clone, Copy, PartialEq, Eq, Hash)]
 pub struct PixelDifference {
-    /// The plane that it is in.
+    /// The plane of the pixel.
     pub component: Component,
-    /// The column of that plane, counted from 0.
+    /// The column in the plane, counted from 0.
     pub x: usize,
-    /// The row of that plane, counted from 0.
+    /// The row in the plane, counted from 0.
     pub y: usize,
     /// The value in the first frame.
     pub first: u16,

@@ -14,18 +14,18 @@
 /// ```
 #[derive(Debug, Clone, Copy, PartialEq, Eq, Hash)]
 pub struct Rectangle {
-    /// Its first column, counted from 0.
+    /// The first column, counted from 0.
     pub x: usize,
-    /// Its first row, counted from 0.
+    /// The first row, counted from 0.
     pub y: usize,
-    /// How many columns it has.
+    /// The number of columns.
     pub width: usize,
-    /// How many rows it has.
+    /// The number of rows.
     pub height: usize,
 }
 
 impl Rectangle {
-    /// Returns whether it lies in a picture of so many columns and rows.
+    /// Returns whether the rectangle lies in a picture of this width and height, in pixels.
     ///
     /// # Examples
     ///
@@ -43,7 +43,7 @@ impl Rectangle {
     }
 }
 
-/// Returns whether so many columns or rows from a first one on are there.
+/// Returns whether a range of columns or rows, given by its first one and its length, lies within a size.
 #[inline]
 fn lies_within(first: usize, count: usize, size: usize) -> bool {
     first <= size && count <= size - first

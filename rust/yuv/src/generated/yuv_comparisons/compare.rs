@@ -3,6 +3,7 @@
 
 use crate::generated::yuv_comparisons::frame_report::FrameReport;
 use crate::generated::yuv_comparisons::measures::{Means, Scale};
+use crate::generated::yuv_comparisons::so_far::Above;
 use crate::support::fs::OpenFile;
 use std::io;
 use crate::support::fs::Files;
@@ -10,13 +11,14 @@ use crate::support::time::Clock;
 use v_frame_proved::chroma::ChromaSubsampling;
 use v_frame_proved::planar::subsample_ratio_or_one;
 use v_frame_proved::streams::{
-    Comparison, FrameObserver, Place, PlaneSums, Progress, Source, StreamError, compare_streams,
+    Comparison, FrameObserver, Place, PlaneSums, Progress, Source, StreamError, check_formats,
+    compare_streams,
 };
 use v_frame_proved::y4m::StreamHeader;
 use crate::generated::yuv_reports::{Report, ReportForm};
 use crate::generated::yuv_system::{
-    Fault, ProgressLine, Status, System, begin, expected_frames, open_file, stream_comparison,
-    test_compared,
+    Fault, ProgressLine, Status, System, begin, expected_frames, header_differences, is_broken,
+    open_file, stream_comparison, test_compared, write_above, write_differences, write_formats,
 };
 use crate::generated::yuv_words::{Call, Options};
 
@@ -47,10 +49,28 @@ where
         test_windows(one.header())?;
     }
     system.progress.expect(expected_frames(&one, len));
+    write_formats(system.progress.out(), one.header(), other.header());
+    check_formats(&one, &other)?;
+    warn_of_headers(system.progress.out(), options, one.header(), other.header());
     let out = &mut system.output;
     let progress = &mut system.progress;
-    let (_out, found) = report_comparison(&mut one, &mut other, options, out, progress)?;
+    let names = (first, second);
+    let (_out, found) = report_comparison(
+        &mut one, &mut other, options, out, progress, names,
+    )?;
     Ok(comparison_status(&found))
+}
+
+/// Warns if the headers of two streams disagree on what a comparison of samples does not show. Headerless video has no header.
+pub(crate) fn warn_of_headers<E: io::Write>(
+    messages: &mut E,
+    options: &Options,
+    first: &StreamHeader,
+    second: &StreamHeader,
+) {
+    if options.raw.is_none() && options.raw_second.is_none() {
+        write_differences(messages, &header_differences(first, second));
+    }
 }
 
 /// Reports how far two streams are apart, and returns the writer and what was found.
@@ -60,16 +80,56 @@ fn report_comparison<R: io::Read, S: io::Read, W: io::Write, H: Clock, E: io::Wr
     options: &Options,
     out: W,
     progress: &mut ProgressLine<'_, H, E>,
+    names: (&str, &str),
 ) -> Result<(W, Comparison), Fault> {
     let report = Report::new(options.form, lists_frames(options));
     let scale = scale_of(first.header(), options);
     let before = first_taken(options);
-    let mut observer = FrameReport::new(out, report, scale, means_of(options), before);
-    let found = compare_sources(first, second, options, &mut observer, progress)?;
+    let means = means_of(options);
+    let second_before = options.skip_second.unwrap_or(before);
+    let mut observer = FrameReport::new(out, report, scale, means, before, second_before);
+    let found = match compare_sources(first, second, options, &mut observer, progress) {
+        Ok(found) => found,
+        Err(error) => {
+            let fault = report_broken(error, &mut observer, progress);
+            warn_of_samples(progress.out(), names, first, second, observer.above());
+            return Err(fault);
+        }
+    };
     test_compared(&found, first, second, &stream_comparison(options))?;
     progress.end();
+    warn_of_samples(progress.out(), names, first, second, observer.above());
     observer.end(&found)?;
     Ok((observer.into_out(), found))
+}
+
+/// Names the first frame of each stream that has samples above its bit depth.
+fn warn_of_samples<R: io::Read, S: io::Read, E: io::Write>(
+    messages: &mut E,
+    names: (&str, &str),
+    first: &Source<R>,
+    second: &Source<S>,
+    above: Above,
+) {
+    write_above(messages, names.0, first, above.first);
+    write_above(messages, names.1, second, above.second);
+}
+
+/// Writes what was found before a stream breaks off, where one does. Returns the fault of the comparison, or that of the report if it
+/// cannot be written.
+fn report_broken<W: io::Write, H: Clock, E: io::Write>(
+    error: StreamError,
+    observer: &mut FrameReport<W>,
+    progress: &mut ProgressLine<'_, H, E>,
+) -> Fault {
+    if !is_broken(&error) {
+        return Fault::Stream(error);
+    }
+    progress.end();
+    match observer.end_broken(&error) {
+        Ok(()) => Fault::Stream(error),
+        Err(unwritten) => Fault::Stream(unwritten),
+    }
 }
 
 /// Returns how many frames of the first stream stand before the first one that is compared.

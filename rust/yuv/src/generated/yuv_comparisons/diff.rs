@@ -2,6 +2,8 @@
 //! The command `diff`: the difference of two frames as a picture, and where it is.
 
 use v_frame_proved::support::memory::TryString;
+use crate::generated::yuv_comparisons::compare::warn_of_headers;
+use crate::generated::yuv_comparisons::so_far::Above;
 use v_frame_proved::support::AllocError;
 use std::io;
 use crate::support::fs::Files;
@@ -10,11 +12,12 @@ use v_frame_proved::frame::Frame;
 use v_frame_proved::pixel::Pixel;
 use v_frame_proved::measures::GreatestDifference;
 use v_frame_proved::streams::{Picture, Place, Source, check_formats};
-use crate::generated::yuv_files::SystemFile;
+use crate::generated::yuv_files::{FileKind, SystemFile};
 use crate::generated::yuv_pictures::{Found, PictureError, PlaneDifference, differences, write_difference_picture};
 use crate::generated::yuv_system::{
-    Fault, Output, Status, System, begin, frames_before, is_standard_output, most_pixels,
-    no_memory, open_file, read_behind, write_made, write_text,
+    Fault, Output, Status, System, Target, begin, frames_before, is_standard_output, most_pixels,
+    no_memory, open_file, read_behind, test_target, write_above, write_formats, write_made,
+    write_text,
 };
 use crate::generated::yuv_words::{Call, Options};
 
@@ -40,18 +43,33 @@ where
     let (first, second, to) = (call.first, call.second, call.third);
     let options = &call.options;
     let rt = system.rt;
+    let target = Target {
+        name: to,
+        written: FileKind::Png,
+        inputs: &[first, second],
+        is_forced: options.force,
+    };
+    test_target(rt, &target)?;
     let mut file = open_file(rt, first, Place::First, &mut system.input)?;
     let mut one = begin(system, first, &mut file, options.raw)?;
     let mut other_file = open_file(rt, second, Place::Second, &mut system.input)?;
     let mut other = begin(system, second, &mut other_file, options.raw_second)?;
-    let mut output = Output::open(
-        rt,
-        to,
-        &[first, second],
-        &mut system.output,
-        system.progress.out(),
-    )?;
-    let done = match write_difference(&mut one, &mut other, options, &mut output) {
+    let mut output = Output::open(rt, &target, &mut system.output, system.progress.out())?;
+    frames_before(options.frame)?;
+    write_formats(system.progress.out(), one.header(), other.header());
+    check_formats(&one, &other)?;
+    warn_of_headers(system.progress.out(), options, one.header(), other.header());
+    let mut above = Above::new();
+    let drawn = write_difference(
+        &mut one,
+        &mut other,
+        options,
+        &mut output,
+        &mut above,
+    );
+    write_above(system.progress.out(), first, &one, above.first);
+    write_above(system.progress.out(), second, &other, above.second);
+    let done = match drawn {
         Ok(drawn) => {
             let (_written, found) = drawn;
             Ok(found)
@@ -78,13 +96,14 @@ fn write_difference<R: io::Read, S: io::Read, W: io::Write>(
     second: &mut Source<S>,
     options: &Options,
     out: W,
+    above: &mut Above,
 ) -> Result<(W, Found), Fault> {
     let before = frames_before(options.frame)?;
     check_formats(first, second)?;
     if first.header().color.bit_depth() == 8 {
-        draw_frames::<u8, _, _, _>(first, second, before, options, out)
+        draw_frames::<u8, _, _, _>(first, second, before, options, out, above)
     } else {
-        draw_frames::<u16, _, _, _>(first, second, before, options, out)
+        draw_frames::<u16, _, _, _>(first, second, before, options, out, above)
     }
 }
 
@@ -95,12 +114,15 @@ fn draw_frames<T: Pixel, R: io::Read, S: io::Read, W: io::Write>(
     before: u64,
     options: &Options,
     out: W,
+    above: &mut Above,
 ) -> Result<(W, Found), Fault> {
     let most = most_pixels(options.max_pixels);
     let mut one = Picture::<T>::new(first, most)?;
     let mut other = Picture::<T>::new(second, most)?;
     read_behind(first, &mut one, before, Place::First)?;
     read_behind(second, &mut other, before, Place::Second)?;
+    let number = before.saturating_add(1);
+    above.note((number, &one.frame), (number, &other.frame));
     let drawn = draw_difference(out, &one.frame, &other.frame, gain_of(options))?;
     Ok(drawn)
 }

@@ -7,6 +7,7 @@ mod diff;
 mod frame_report;
 mod measures;
 mod plot;
+mod so_far;
 
 pub use compare::do_compare;
 pub use diff::do_diff;

@@ -2,7 +2,7 @@
 //! The command `plot`: how far two streams are apart, frame by frame, as a chart.
 
 use v_frame_proved::support::memory::{TryPush, TryString, try_format};
-use crate::generated::yuv_comparisons::compare::samples_of;
+use crate::generated::yuv_comparisons::compare::{samples_of, warn_of_headers};
 use crate::generated::yuv_comparisons::measures::Scale;
 use v_frame_proved::support::AllocError;
 use std::io;
@@ -11,15 +11,16 @@ use crate::support::fs::Files;
 use crate::support::time::Clock;
 use v_frame_proved::frame::Frame;
 use v_frame_proved::pixel::Pixel;
-use v_frame_proved::chart::{Chart, Series, svg};
+use v_frame_proved::chart::{Chart, Series, push_text, svg};
 use v_frame_proved::measures::{FrameMeasure, frame_ssim, frames_have_one_size};
 use v_frame_proved::streams::{
-    CompareOptions, FrameObserver, Place, PlaneSums, Progress, Source, StreamError, compare_streams,
+    CompareOptions, FrameObserver, Place, PlaneSums, Progress, Source, StreamError, check_formats,
+    compare_streams,
 };
-use crate::generated::yuv_files::SystemFile;
+use crate::generated::yuv_files::{FileKind, SystemFile};
 use crate::generated::yuv_system::{
-    Fault, Output, Status, System, begin, expected_frames, no_memory, open_file, taken_of_both,
-    test_compared, write_text,
+    Fault, Output, Status, System, Target, begin, expected_frames, is_broken, no_memory, open_file,
+    taken_of_both, test_compared, test_target, write_formats, write_text,
 };
 use crate::generated::yuv_words::{Call, Options};
 
@@ -42,26 +43,34 @@ where
     let (first, second, to) = (call.first, call.second, call.third);
     let options = &call.options;
     let rt = system.rt;
+    let target = Target {
+        name: to,
+        written: FileKind::Svg,
+        inputs: &[first, second],
+        is_forced: options.force,
+    };
+    test_target(rt, &target)?;
     let mut file = open_file(rt, first, Place::First, &mut system.input)?;
     let len = file.len();
     let mut one = begin(system, first, &mut file, options.raw)?;
     let mut other_file = open_file(rt, second, Place::Second, &mut system.input)?;
     let mut other = begin(system, second, &mut other_file, options.raw_second)?;
+    write_formats(system.progress.out(), one.header(), other.header());
+    check_formats(&one, &other)?;
+    warn_of_headers(system.progress.out(), options, one.header(), other.header());
     system.progress.expect(expected_frames(&one, len));
     let progress = &mut system.progress;
     let names = (first, second);
-    let text = drawn(&mut one, &mut other, options, names, progress)?;
+    let (text, broken) = drawn(&mut one, &mut other, options, names, progress)?;
     system.progress.end();
-    let mut output = Output::open(
-        rt,
-        to,
-        &[first, second],
-        &mut system.output,
-        system.progress.out(),
-    )?;
+    let mut output = Output::open(rt, &target, &mut system.output, system.progress.out())?;
     let done = write_drawn(&mut output, text.as_str());
     drop(text);
-    output.settle(rt, done)
+    let status = output.settle(rt, done)?;
+    match broken {
+        Some(error) => Err(Fault::Stream(error)),
+        None => Ok(status),
+    }
 }
 
 /// Writes the chart.
@@ -72,14 +81,15 @@ fn write_drawn<W: Write>(mut out: W, text: &str) -> Result<Status, Fault> {
     }
 }
 
-/// Returns the chart of what is taken of both streams.
+/// Returns the chart of what is taken of both streams. If one of them breaks off, the chart has the frames before, and the error is
+/// returned with it.
 fn drawn<R: io::Read, S: io::Read, P: Progress>(
     first: &mut Source<R>,
     second: &mut Source<S>,
     options: &Options,
     names: (&str, &str),
     progress: &mut P,
-) -> Result<String, Fault> {
+) -> Result<(String, Option<StreamError>), Fault> {
     let mut curves = Curves::new(
         first_frame(options),
         Scale {
@@ -89,10 +99,22 @@ fn drawn<R: io::Read, S: io::Read, P: Progress>(
         },
     );
     let taken = frames_taken(options);
-    let found = compare_streams(first, second, &taken, &mut curves, progress)?;
-    test_compared(&found, first, second, &taken)?;
-    match curves.chart(names) {
-        Ok(text) => Ok(text),
+    let mut are_same = false;
+    let broken = match compare_streams(first, second, &taken, &mut curves, progress) {
+        Ok(found) => {
+            test_compared(&found, first, second, &taken)?;
+            are_same = found.shows_the_same();
+            None
+        }
+        Err(error) => {
+            if !is_broken(&error) || curves.psnr.y.is_empty() {
+                return Err(Fault::Stream(error));
+            }
+            Some(error)
+        }
+    };
+    match curves.chart(names, are_same) {
+        Ok(text) => Ok((text, broken)),
         Err(_) => Err(Fault::Stream(no_memory())),
     }
 }
@@ -212,25 +234,77 @@ impl Curves {
         }
     }
 
-    /// Returns the charts, one above the other.
-    fn chart(&self, (first, second): (&str, &str)) -> Result<String, AllocError> {
-        let title = try_format(format_args!("{first} and {second}"))?;
-        let psnr = self
-            .psnr
-            .chart(title.as_str(), "PSNR (dB)", self.first)?;
-        if self.ssim.y.is_empty() {
-            return Ok(psnr);
-        }
-        let ssim = self.ssim.chart(title.as_str(), "SSIM", self.first)?;
+    /// Returns the charts, one above the other, with the names of both files above them.
+    fn chart(
+        &self,
+        (first, second): (&str, &str),
+        are_same: bool,
+    ) -> Result<String, AllocError> {
+        let psnr = self.psnr.chart("PSNR", "dB", self.first)?;
         let mut text = String::new();
-        text.try_push_str("<svg xmlns=\"http://www.w3.org/2000/svg\" width=\"960\" height=\"840\" ")?;
-        text.try_push_str("viewBox=\"0 0 960 840\">\n")?;
+        if self.ssim.y.is_empty() {
+            push_head(&mut text, 220)?;
+        } else {
+            push_head(&mut text, 420)?;
+        }
+        push_names(&mut text, first, second, are_same)?;
+        text.try_push_str("<g transform=\"translate(0 20)\">\n")?;
         text.try_push_str(psnr.as_str())?;
-        text.try_push_str("<g transform=\"translate(0 420)\">\n")?;
-        text.try_push_str(ssim.as_str())?;
-        text.try_push_str("</g>\n</svg>\n")?;
+        text.try_push_str("</g>\n")?;
+        if !self.ssim.y.is_empty() {
+            let ssim = self.ssim.chart("SSIM", "", self.first)?;
+            text.try_push_str("<g transform=\"translate(0 220)\">\n")?;
+            text.try_push_str(ssim.as_str())?;
+            text.try_push_str("</g>\n")?;
+        }
+        text.try_push_str("</svg>\n")?;
         Ok(text)
     }
+}
+
+/// Appends the head of a white picture of this height.
+fn push_head(text: &mut String, height: usize) -> Result<(), AllocError> {
+    write!(
+        text,
+        "<svg xmlns=\"http://www.w3.org/2000/svg\" width=\"960\" height=\"{height}\" viewBox=\"0 0 960 {height}\">\n\
+         <rect width=\"960\" height=\"{height}\" fill=\"#ffffff\"/>\n"
+    )
+}
+
+/// Appends the names of two files, and whether their frames are the same.
+fn push_names(
+    text: &mut String,
+    first: &str,
+    second: &str,
+    are_same: bool,
+) -> Result<(), AllocError> {
+    let one = shortened(first)?;
+    let other = shortened(second)?;
+    let (one, other) = (one.as_str(), other.as_str());
+    let names = if are_same {
+        try_format(format_args!("{one} and {other}: all frames are identical"))?
+    } else {
+        try_format(format_args!("{one} and {other}"))?
+    };
+    push_text(
+        text,
+        "x=\"76\" y=\"15\" font-family=\"sans-serif\" font-size=\"13\" fill=\"#333333\"",
+        names.as_str(),
+    )
+}
+
+/// Returns a name with at most 48 characters: of a longer one the first and the last, and three dots between them.
+fn shortened(name: &str) -> Result<String, AllocError> {
+    let count = name.chars().count();
+    let mut text = String::new();
+    for (k, letter) in name.chars().enumerate() {
+        if count <= 48 || k < 22 || k >= count - 23 {
+            text.try_push(letter)?;
+        } else if k == 22 {
+            text.try_push_str("...")?;
+        }
+    }
+    Ok(text)
 }
 
 impl<T: Pixel> FrameObserver<T> for Curves {

@@ -5,32 +5,63 @@ use crate::generated::yuv_facts::value_counts::ValueCounts;
 use v_frame_proved::support::AllocError;
 use v_frame_proved::support::numbers::nearest_u64_to_f64;
 use v_frame_proved::formats::Component;
+use v_frame_proved::rgb::ColorRange;
 use crate::generated::yuv_reports::{SampleStatistics, push_statistics};
 
-/// The range that samples have where nothing is out of the ordinary.
+/// The values that samples usually have, from `least` to `greatest`, and the greatest value of their bit depth, `most`.
 #[derive(Clone, Copy)]
 pub(crate) struct NominalRange {
     pub(crate) least: u16,
     pub(crate) greatest: u16,
+    pub(crate) most: u16,
 }
 
 impl NominalRange {
-    /// Returns the range at a depth of what is one in 8 bits, as ITU-R BT.601 and BT.709 have it.
-    pub(crate) fn new(least: u8, greatest: u8, depth: u8) -> Self {
-        NominalRange {
-            least: nominal(least, depth),
-            greatest: nominal(greatest, depth),
+    /// Returns the range of samples of a bit depth: all values of the depth in the full range. In the limited range the values that
+    /// stand for 16 to `top` of 8 bits, as ITU-R BT.601 and BT.709 have it.
+    pub(crate) fn new(range: ColorRange, top: u8, depth: u8) -> Self {
+        let most = most_of(depth);
+        match range {
+            ColorRange::Limited => NominalRange {
+                least: nominal(16, depth),
+                greatest: nominal(top, depth),
+                most,
+            },
+            ColorRange::Full => NominalRange {
+                least: 0,
+                greatest: most,
+                most,
+            },
         }
     }
 
-    /// Returns how often a value occurs, where it is outside of the range, and else 0.
+    /// Returns the range that all values above the bit depth are outside of, and no other value.
+    fn up_to_most(self) -> Self {
+        NominalRange {
+            least: 0,
+            greatest: self.most,
+            most: u16::MAX,
+        }
+    }
+
+    /// Returns `count`, how often a value occurs, if the value is outside of the range and not above `most`, and otherwise 0.
     fn count_outside(self, value: usize, count: u64) -> u64 {
-        if value < usize::from(self.least) || value > usize::from(self.greatest) {
+        if value < usize::from(self.least)
+            || value > usize::from(self.greatest) && value <= usize::from(self.most)
+        {
             count
         } else {
             0
         }
     }
+}
+
+/// Returns the greatest value of a bit depth.
+fn most_of(depth: u8) -> u16 {
+    if depth == 0 {
+        return 0;
+    }
+    u16::MAX >> 16u8.saturating_sub(depth)
 }
 
 /// Returns the value that stands at a depth for one of 8 bits.
@@ -74,6 +105,8 @@ fn described(plane: Component, counts: &[u64], range: NominalRange) -> Option<Sa
         maximum,
         mean: mean(counts),
         outside: outside(counts, range),
+        most: range.most,
+        above: outside(counts, range.up_to_most()),
     })
 }
 
@@ -111,7 +144,7 @@ fn mean(counts: &[u64]) -> f64 {
     quotient(sum, all)
 }
 
-/// Returns how many values are outside of a range. It is `u64::MAX` where there are more.
+/// Returns how many values are outside of a range and not above its `most`. It is `u64::MAX` where there are more.
 fn outside(counts: &[u64], range: NominalRange) -> u64 {
     let mut outside = 0u64;
     for value in 0..counts.len() {

@@ -13,11 +13,12 @@ use crate::support::time::Clock;
 use v_frame_proved::frame::Frame;
 use v_frame_proved::plane::Plane;
 use v_frame_proved::formats::Component;
+use v_frame_proved::rgb::ColorRange;
 use v_frame_proved::streams::{Picture, Place, Progress, Silent, Source, StreamError, skip_frames};
 use crate::generated::yuv_reports::push_histogram;
 use crate::generated::yuv_system::{
     Fault, ProgressLine, Status, System, begin, expected_frames, most_pixels, no_memory,
-    nothing_taken, open_file, write_made, write_nothing,
+    nothing_taken, open_file, used_range, write_made, write_nothing,
 };
 use crate::generated::yuv_words::{Call, Options};
 
@@ -49,7 +50,8 @@ where
     Ok(Status::Same)
 }
 
-/// Writes what values the samples of a stream have, and returns of how many frames.
+/// Writes what values the samples of a stream have, and returns of how many frames. If the stream breaks off, the values of the frames
+/// before are written, and then the error is returned.
 fn report_values<R: io::Read, W: io::Write, H: Clock, E: io::Write>(
     source: &mut Source<R>,
     options: &Options,
@@ -71,12 +73,13 @@ fn report_pixels<T: CountedPixel, R: io::Read, W: io::Write, H: Clock, E: io::Wr
     progress: &mut ProgressLine<'_, H, E>,
 ) -> Result<u64, StreamError> {
     let depth = source.header().color.bit_depth();
-    let (counts, found) = count_values::<T, _, _>(source, options, progress)?;
-    let text = report_text(&counts, options.histogram, depth);
+    let range = used_range(options.range, source.header());
+    let (counts, counted) = count_values::<T, _, _>(source, options, progress)?;
+    let text = report_text(&counts, options.histogram, range, depth);
     drop(counts);
     progress.end();
     write_made(out, text)?;
-    Ok(found)
+    counted
 }
 
 /// How often each value occurs in each plane.
@@ -86,12 +89,13 @@ struct Counts {
     v: Option<ValueCounts>,
 }
 
-/// Counts the values of the frames that are asked for, and these.
+/// Counts the values of the frames that are asked for, and these frames. If the stream breaks off, returns the values of the frames
+/// before with the error.
 fn count_values<T: CountedPixel, R: io::Read, P: Progress>(
     source: &mut Source<R>,
     options: &Options,
     progress: &mut P,
-) -> Result<(Counts, u64), StreamError> {
+) -> Result<(Counts, Result<u64, StreamError>), StreamError> {
     let mut picture = Picture::<T>::new(source, most_pixels(options.max_pixels))?;
     skip_frames(source, options.skip.unwrap_or(0), &mut Silent)?;
     let has_chroma = picture.frame().u_plane.is_some();
@@ -99,8 +103,8 @@ fn count_values<T: CountedPixel, R: io::Read, P: Progress>(
         return Err(no_memory());
     };
     let most = options.count.unwrap_or(u64::MAX);
-    let found = count_frames(source, &mut picture, most, &mut counts, progress)?;
-    Ok((counts, found))
+    let counted = count_frames(source, &mut picture, most, &mut counts, progress);
+    Ok((counts, counted))
 }
 
 /// Adds the values of so many frames to counts of nothing, or those of all that are left where they are fewer.
@@ -166,12 +170,13 @@ fn add_chroma<T: CountedPixel>(
 fn report_text(
     counts: &Counts,
     histogram: bool,
+    range: ColorRange,
     depth: u8,
 ) -> Result<String, AllocError> {
     if histogram {
         return histogram_text(counts);
     }
-    statistics_text(counts, depth)
+    statistics_text(counts, range, depth)
 }
 
 /// Returns a row for each value that occurs.
@@ -197,10 +202,14 @@ fn push_chroma(
 }
 
 /// Returns a line for each plane.
-fn statistics_text(counts: &Counts, depth: u8) -> Result<String, AllocError> {
+fn statistics_text(
+    counts: &Counts,
+    range: ColorRange,
+    depth: u8,
+) -> Result<String, AllocError> {
     let mut text = String::new();
-    let luma = NominalRange::new(16, 235, depth);
-    let chroma = NominalRange::new(16, 240, depth);
+    let luma = NominalRange::new(range, 235, depth);
+    let chroma = NominalRange::new(range, 240, depth);
     push_plane(&mut text, Component::Y, &counts.y, luma)?;
     push_chroma_plane(&mut text, Component::U, &counts.u, chroma)?;
     push_chroma_plane(&mut text, Component::V, &counts.v, chroma)?;

@@ -2,14 +2,16 @@
 //! Files that a command writes. The frames go to a new file beside the target, which replaces the target when it is whole.
 
 use crate::generated::yuv_files::destination::{Destination, resolve_links};
+use crate::generated::yuv_files::kind::{TargetFacts, kind_of_name};
 use crate::generated::yuv_files::partial::{MODE_BITS, PartialFile, finish, open_for_writing};
+use crate::generated::yuv_files::same_file::is_any_read;
 use crate::generated::yuv_files::system_file::SystemFile;
 use core::fmt;
 use crate::support::fs;
 use std::fs::Metadata;
 use crate::support::fs::{OpenFile, OpenOptions};
 use std::io;
-use std::io::ErrorKind;
+use std::io::{ErrorKind, Read};
 use std::os::unix::fs::MetadataExt;
 use crate::support::fs::Files;
 
@@ -65,6 +67,53 @@ impl fmt::Display for Loss {
                 "no file can be made beside it, so it is rewritten, and lost if that fails",
             Loss::Owner => "its owner or group cannot be kept, so set-ID bits are dropped",
         })
+    }
+}
+
+/// How a stream of YUV4MPEG2 begins.
+const MAGIC: &[u8] = b"YUV4MPEG2";
+
+/// Returns what is known of a target, by its name and by the file that has this name, if there is one. Only a regular file can be a
+/// stream or an input here. A file that this process has open, as `/dev/fd/3`, is neither.
+///
+/// # Errors
+///
+/// The system's, if the name has too many symbolic links, or there is not enough memory. A file that cannot be read is no stream.
+pub fn target_facts<H: Files>(
+    rt: &H,
+    name: &str,
+    inputs: &[&str],
+) -> io::Result<TargetFacts> {
+    let named = kind_of_name(name)?;
+    let is_replaced = match fs::metadata(rt, name) {
+        Ok(found) if found.is_file() => { matches!(resolve_links(rt, name)?, Destination::Name(_)) }
+        _ => false,
+    };
+    Ok(TargetFacts {
+        named,
+        is_stream: is_replaced && is_stream(rt, name),
+        is_input: is_replaced && is_any_read(rt, inputs, name),
+    })
+}
+
+/// Returns whether a name is that of a regular file that begins as a YUV4MPEG2 stream does.
+pub fn is_stream_file<H: Files>(rt: &H, name: &str) -> bool {
+    match fs::metadata(rt, name) {
+        Ok(found) => found.is_file() && is_stream(rt, name),
+        Err(_) => false,
+    }
+}
+
+/// Returns whether a file begins as a YUV4MPEG2 stream does.
+fn is_stream<H: Files>(rt: &H, name: &str) -> bool {
+    let mut first = [0; 9];
+    match fs::open(rt, name) {
+        // A regular file gives all bytes that are asked for, unless it has fewer.
+        Ok(mut file) => match file.read(&mut first) {
+            Ok(9) => first.as_slice() == MAGIC,
+            _ => false,
+        },
+        Err(_) => false,
     }
 }
 

@@ -2,8 +2,10 @@
 //! Frames as pictures for people, in PNG files: the colors of a frame, one of its planes, or how far two frames are apart.
 //!
 //! [`write_frame_picture`], [`write_plane_picture`] and [`write_difference_picture`] write to any writer.
-//! [`differences`] says in numbers where two frames differ.
+//! [`differences`] says in numbers where two frames differ. [`has_sample_above`] says whether a sample is above
+//! the greatest value of its bit depth.
 
+mod above;
 mod colors;
 mod difference;
 mod error;
@@ -11,6 +13,7 @@ mod file;
 mod gray;
 mod places;
 
+pub use above::{greatest_value, has_sample_above};
 pub use colors::{Colors, write_frame_picture};
 pub use difference::write_difference_picture;
 pub use error::PictureError;

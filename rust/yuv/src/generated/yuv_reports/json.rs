@@ -9,11 +9,10 @@ use v_frame_proved::support::AllocError;
 use v_frame_proved::formats::{PixelDifference, PlaneSums};
 use v_frame_proved::measures::FrameMeasure;
 
-/// The keys of the values of a measure, with what stands before them.
+/// The keys of the values of a measure, with the punctuation before them.
 const KEYS: [&str; 4] = ["{\"all\": ", ", \"y\": ", ", \"u\": ", ", \"v\": "];
 
-/// Appends the object of a frame, without the comma or the line feed after it. Its values are put together in a text of their own,
-/// since nothing is known of one that a float was written to.
+/// Appends the object of a frame, without the comma or the line feed after it.
 pub fn push_frame(
     text: &mut String,
     number: u64,
@@ -62,7 +61,7 @@ fn push_values(text: &mut String, values: &FrameMeasure) -> Result<(), AllocErro
     text.try_push('}')
 }
 
-/// Appends a number, or `null` where it is none that JSON has.
+/// Appends a number, or `null` if JSON cannot represent it.
 fn push_finite(text: &mut String, value: f64) -> Result<(), AllocError> {
     if value.is_finite() {
         push_value(text, "", value, "")
@@ -71,7 +70,7 @@ fn push_finite(text: &mut String, value: f64) -> Result<(), AllocError> {
     }
 }
 
-/// Appends the object of the sums after a text, where they are reported.
+/// Appends the object of the sums after a text, if they are reported.
 fn push_sums(text: &mut String, between: &str, sums: &Option<PlaneSums>) -> Result<(), AllocError> {
     let Some(sums) = sums else {
         return Ok(());
@@ -81,6 +80,30 @@ fn push_sums(text: &mut String, between: &str, sums: &Option<PlaneSums>) -> Resu
     push_sum(text, ", \"u\": ", sums.u)?;
     push_sum(text, ", \"v\": ", sums.v)?;
     text.try_push('}')
+}
+
+/// Appends the member that states why a stream could not be read further.
+pub fn push_error(text: &mut String, error: &str) -> Result<(), AllocError> {
+    text.try_push_str("  \"error\": \"")?;
+    for letter in error.chars() {
+        push_escaped(text, letter)?;
+    }
+    text.try_push_str("\",\n")
+}
+
+/// Appends the count 0 and the end of the object.
+pub fn push_no_frames(text: &mut String) -> Result<(), AllocError> {
+    text.try_push_str("  \"count\": 0\n}\n")
+}
+
+/// Appends a character of a string. A control character becomes a space.
+fn push_escaped(text: &mut String, letter: char) -> Result<(), AllocError> {
+    match letter {
+        '"' => text.try_push_str("\\\""),
+        '\\' => text.try_push_str("\\\\"),
+        _ if u32::from(letter) < 32 => text.try_push(' '),
+        _ => text.try_push(letter),
+    }
 }
 
 /// Appends the members after the list of frames, and the end of the object.
@@ -118,7 +141,7 @@ fn push_longer(text: &mut String, longer: Option<Longer>) -> Result<(), AllocErr
     })
 }
 
-/// Appends the object of a measure over all frames, `null` where there was none.
+/// Appends the object of a measure over all frames, with `null` if there was no frame.
 fn push_pool(text: &mut String, pool: &Pool) -> Result<(), AllocError> {
     let pooled = (pool.mean(), pool.harmonic_mean(), pool.least());
     let (Some(mean), Some(harmonic_mean), Some((least, frame))) = pooled else {
@@ -133,7 +156,7 @@ fn push_pool(text: &mut String, pool: &Pool) -> Result<(), AllocError> {
     push_number(text, ", \"frame_of_the_minimum\": ", u128::from(frame), "}")
 }
 
-/// Appends the object of the first sample that differs, `null` where none does.
+/// Appends the object of the first sample that differs, or `null` if no sample differs.
 fn push_difference(
     text: &mut String,
     difference: &Option<(u64, PixelDifference)>,
@@ -157,7 +180,7 @@ fn push_sample(text: &mut String, frame: u64, found: &PixelDifference) -> Result
     write!(text, "\"first\": {first}, \"second\": {second}}}")
 }
 
-/// Appends the begin of an object: the place of a sample.
+/// Appends the beginning of an object: the place of a sample.
 fn push_place(
     text: &mut String,
     frame: u64,

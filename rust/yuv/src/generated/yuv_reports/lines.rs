@@ -8,13 +8,12 @@ use v_frame_proved::support::AllocError;
 use v_frame_proved::formats::{PixelDifference, PlaneSums};
 use v_frame_proved::measures::FrameMeasure;
 
-/// What all planes and each of them are called in the line of a frame, and in a line of all frames.
+/// The names of all planes together and of each plane, in the line of a frame and in a line on all frames.
 const SHORT_NAMES: [&str; 4] = ["avg", "y", "u", "v"];
 
 const LONG_NAMES: [&str; 4] = ["all planes", "Y", "U", "V"];
 
-/// Appends the line of a frame: its errors and ratios in the form of ffmpeg's filter `psnr`, then what else is measured. Its
-/// values are put together in a text of their own, since nothing is known of one that a float was written to.
+/// Appends the line of a frame: errors and ratios in the form of ffmpeg's filter `psnr`, then other measures.
 pub fn push_frame(
     text: &mut String,
     number: u64,
@@ -88,7 +87,7 @@ fn push_sums(
     push_sum(text, v, sums.v)
 }
 
-/// Appends what is said of all frames: a line for all planes and one for each, and what else was found.
+/// Appends the report on all frames: a line for all planes and one for each plane, then the other results.
 pub fn push_comparison(text: &mut String, found: &Comparison) -> Result<(), AllocError> {
     let frames = found.frames;
     writeln!(text, "frames: {frames}")?;
@@ -101,7 +100,7 @@ pub fn push_comparison(text: &mut String, found: &Comparison) -> Result<(), Allo
     push_longer(text, found.longer)
 }
 
-/// Appends the line of the sums, where they are reported.
+/// Appends the line of the sums, if they are reported.
 fn push_sums_line(text: &mut String, sums: &Option<PlaneSums>) -> Result<(), AllocError> {
     let Some(sums) = sums else {
         return Ok(());
@@ -111,7 +110,7 @@ fn push_sums_line(text: &mut String, sums: &Option<PlaneSums>) -> Result<(), All
     text.try_push('\n')
 }
 
-/// Appends the line that says which stream has more frames, where one has.
+/// Appends the line that states which stream has more frames, if one has.
 fn push_longer(text: &mut String, longer: Option<Longer>) -> Result<(), AllocError> {
     text.try_push_str(match longer {
         Some(Longer::First) => "length: the first stream has more frames\n",
@@ -120,7 +119,7 @@ fn push_longer(text: &mut String, longer: Option<Longer>) -> Result<(), AllocErr
     })
 }
 
-/// Appends the error and the ratio of all planes and of each.
+/// Appends the error and the ratio of all planes together and of each plane.
 fn push_planes(
     text: &mut String,
     mse: &FrameMeasure,
@@ -150,7 +149,7 @@ fn push_ssim(text: &mut String, ssim: &FrameMeasure) -> Result<(), AllocError> {
     text.try_push('\n')
 }
 
-/// Appends the line that says where the streams first differ, if they do.
+/// Appends the line that states the first difference of the streams, if there is one.
 fn push_difference(
     text: &mut String,
     difference: &Option<(u64, PixelDifference)>,

@@ -5,7 +5,7 @@ use v_frame_proved::support::memory::TryString;
 use v_frame_proved::support::AllocError;
 use v_frame_proved::measures::FrameMeasure;
 
-/// Returns a measure of the planes of a frame in the order in which it is reported: of all together, of Y, U and V.
+/// Returns the values of a measure in the order of the reports: all planes together, Y, U and V.
 pub(crate) fn in_order(measure: &FrameMeasure) -> [Option<f64>; 4] {
     [Some(measure.all), Some(measure.y), measure.u, measure.v]
 }
@@ -20,7 +20,7 @@ pub(crate) fn push_number(
     write!(text, "{before}{number}{after}")
 }
 
-/// Appends a sum after a text, where there is one.
+/// Appends a sum after a text, if there is one.
 pub(crate) fn push_sum(text: &mut String, before: &str, sum: Option<u128>) -> Result<(), AllocError> {
     match sum {
         Some(sum) => write!(text, "{before}{sum}"),

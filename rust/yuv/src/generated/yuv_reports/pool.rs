@@ -3,7 +3,7 @@
 
 use v_frame_proved::support::numbers::nearest_u64_to_f64;
 
-/// What is kept of the values that a measure has from frame to frame.
+/// The values of a measure over the frames so far, as far as a summary needs them.
 #[derive(Clone, Copy)]
 pub struct Pool {
     frames: u64,
@@ -25,7 +25,7 @@ impl Pool {
         }
     }
 
-    /// Adds the value of a frame, which has this number. The first of equal least values keeps its number.
+    /// Adds the value of the frame with this number. Of equal least values the first one keeps its number.
     pub fn add(&mut self, frame: u64, value: f64) {
         self.sum += value;
         self.sum_of_reciprocals += 1.0 / value.max(0.0);
@@ -36,18 +36,18 @@ impl Pool {
         self.frames = self.frames.saturating_add(1);
     }
 
-    /// Returns the arithmetic mean, where there was a frame.
+    /// Returns the arithmetic mean, or `None` if there was no frame.
     pub fn mean(&self) -> Option<f64> {
         (self.frames > 0).then_some(self.sum / nearest_u64_to_f64(self.frames))
     }
 
-    /// Returns the least value and the number of its frame, where there was a frame.
+    /// Returns the least value and the number of its frame, or `None` if there was no frame.
     pub fn least(&self) -> Option<(f64, u64)> {
         (self.frames > 0).then_some((self.least, self.frame_of_least))
     }
 
-    /// Returns the number of frames over the sum of the reciprocals, where there was a frame: the harmonic mean, which is 0 where
-    /// a value is 0 or below.
+    /// Returns the harmonic mean: the number of frames divided by the sum of the reciprocals, or 0 if a value is not above 0. Returns
+    /// `None` if there was no frame.
     pub fn harmonic_mean(&self) -> Option<f64> {
         (self.frames > 0).then_some(nearest_u64_to_f64(self.frames) / self.sum_of_reciprocals)
     }

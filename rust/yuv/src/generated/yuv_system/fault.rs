@@ -7,7 +7,12 @@ use std::io;
 use v_frame_proved::png::PngError;
 use v_frame_proved::streams::{Place, Problem, StreamError};
 use v_frame_proved::y4m::{HeaderError, Y4mError};
+use crate::generated::yuv_files::{FileKind, SystemError, TargetError};
 use crate::generated::yuv_pictures::PictureError;
+
+/// What the message adds if a file is not a YUV4MPEG2 stream.
+const NOT_A_STREAM: &str =
+    "; for headerless video, add --raw WIDTHxHEIGHT:FORMAT; for other files, run 'ffmpeg -i FILE -f yuv4mpegpipe - | yuv COMMAND -'";
 
 /// Why a command gave up.
 pub enum Fault {
@@ -35,6 +40,8 @@ pub enum Fault {
     Replace(io::ErrorKind),
     /// What was written can't be copied to its place, and a part of it stands there.
     Rewrite(io::ErrorKind),
+    /// The command writes a file of this kind, and the target is rejected.
+    Target(FileKind, TargetError),
     /// The picture was not written.
     Picture(PictureError),
     /// No frame of the stream of that place was taken.
@@ -43,6 +50,16 @@ pub enum Fault {
     NoFrame(Place, u64),
     /// Frames are counted from 1.
     FrameZero,
+    /// A crop of the interlaced stream of that place begins at row `from`, which swaps its fields. The nearest row that does not is
+    /// `nearest`.
+    SwapsFields {
+        /// The stream.
+        place: Place,
+        /// The row of the crop.
+        from: usize,
+        /// The nearest row that keeps the fields.
+        nearest: usize,
+    },
     /// A plane of the stream of that place is smaller than a window of structural similarity.
     NoWindow(Place),
 }
@@ -60,14 +77,32 @@ impl Fault {
             | Fault::Nothing(place, _)
             | Fault::NoFrame(place, _)
             | Fault::NoWindow(place) => Some(*place),
+            Fault::SwapsFields { place, .. } => Some(*place),
             Fault::Header(error) | Fault::Stream(error) | Fault::Report(error) => {
                 Some(error.place)
             }
             Fault::Picture(PictureError::NoPlane) => Some(Place::First),
-            Fault::Create(_) | Fault::Replace(_) | Fault::Rewrite(_) | Fault::Picture(_) => {
-                Some(Place::Output)
-            }
+            Fault::Create(_)
+            | Fault::Replace(_)
+            | Fault::Rewrite(_)
+            | Fault::Target(_, _)
+            | Fault::Picture(_) => Some(Place::Output),
             Fault::FrameZero => None,
+        }
+    }
+}
+
+impl Fault {
+    /// Returns whether the reader of an output closed it, as `head` does.
+    pub fn is_closed_pipe(&self) -> bool {
+        match self {
+            Fault::Stream(error) | Fault::Report(error) => {
+                error.place == Place::Output && error.cause == Some(io::ErrorKind::BrokenPipe)
+            }
+            Fault::Picture(PictureError::Png(PngError::Write(error))) => {
+                error.kind() == io::ErrorKind::BrokenPipe
+            }
+            _ => false,
         }
     }
 }
@@ -87,30 +122,109 @@ impl From<PictureError> for Fault {
 impl fmt::Display for Fault {
     fn fmt(&self, f: &mut fmt::Formatter<'_>) -> fmt::Result {
         match self {
-            Fault::Open(_, cause) => write!(f, "cannot open: {cause}"),
+            Fault::Open(_, kind) => write_failed(f, "cannot open", *kind),
             Fault::InputTwice(_) => f.write_str("standard input can be read only once"),
             Fault::ReadAndWritten(_) => f.write_str("cannot be read and written at once"),
-            Fault::NotAStream(_) => fmt::Display::fmt(&HeaderError::NotAStream, f),
+            Fault::NotAStream(_) => {
+                fmt::Display::fmt(&HeaderError::NotAStream, f)?;
+                f.write_str(NOT_A_STREAM)
+            }
             Fault::NoBytes(_) => f.write_str("nothing to read: it is empty or closed"),
-            Fault::NoPlanes(_) => f.write_str("--planes needs video in planes"),
+            Fault::NoPlanes(_) => f.write_str("--planes requires planar video"),
             Fault::Header(error) => write_caused(f, error),
             Fault::Stream(error) | Fault::Report(error) => write_stream_error(f, error),
-            Fault::Create(cause) => write!(f, "cannot create: {cause}"),
-            Fault::Replace(cause) => write!(f, "cannot replace: {cause}"),
-            Fault::Rewrite(cause) => write!(
-                f,
-                "rewritten in part, and whole in its .partial: {cause}"
-            ),
+            Fault::Create(kind) => write_failed(f, "cannot create", *kind),
+            Fault::Replace(kind) => write_failed(f, "cannot replace", *kind),
+            Fault::Rewrite(kind) => {
+                write_failed(
+                    f,
+                    "overwritten in part; the whole output is in its .partial file",
+                    *kind,
+                )
+            }
+            Fault::Target(written, error) => write_rejection(f, *written, *error),
             Fault::Picture(PictureError::Png(PngError::Write(error))) => {
-                let cause = error.kind();
-                write!(f, "write failed: {cause}")
+                write_failed(f, "write failed", error.kind())
             }
             Fault::Picture(error) => fmt::Display::fmt(error, f),
             Fault::Nothing(_, nothing) => fmt::Display::fmt(nothing, f),
+            Fault::NoFrame(_, 1) => f.write_str("the stream has only 1 frame"),
             Fault::NoFrame(_, frames) => write!(f, "the stream has only {frames} frames"),
-            Fault::FrameZero => f.write_str("frames are counted from 1"),
-            Fault::NoWindow(_) => { f.write_str("--ssim needs planes of at least 8 by 8 samples") }
+            Fault::FrameZero => f.write_str("there is no frame 0: frames are counted from 1"),
+            Fault::SwapsFields { from, nearest, .. } => write!(
+                f,
+                "--crop from row {from} swaps the fields of interlaced video; begin at row {nearest}, or add --force"
+            ),
+            Fault::NoWindow(_) => f.write_str("--ssim requires planes of at least 8x8 samples"),
         }
+    }
+}
+
+/// Writes what failed, and the error that the system reported.
+fn write_failed(
+    f: &mut fmt::Formatter<'_>,
+    what: &str,
+    kind: io::ErrorKind,
+) -> fmt::Result {
+    let error = SystemError { kind };
+    write!(f, "{what}: {error}")
+}
+
+/// Writes why a command that writes a file of the kind `written` rejects its target, and what to do instead.
+fn write_rejection(
+    f: &mut fmt::Formatter<'_>,
+    written: FileKind,
+    error: TargetError,
+) -> fmt::Result {
+    let wrote = written.text();
+    match error {
+        TargetError::Input => {
+            f.write_str("the command reads it; name another target, or add --force to replace it")
+        }
+        TargetError::Stream => write!(
+            f,
+            "it is a YUV4MPEG2 stream, and the command writes {wrote}; name another target, or add --force to replace it"
+        ),
+        TargetError::OtherKind(kind) => {
+            let (named, advice) = (kind.text(), advice_of(written, kind));
+            write!(
+                f,
+                "the name stands for {named}, and the command writes {wrote}; {advice}, or add --force"
+            )
+        }
+    }
+}
+
+/// Returns what a user should do to get a file of the kind `named` from a command that writes `written`.
+fn advice_of(written: FileKind, named: FileKind) -> &'static str {
+    match (written, named) {
+        (FileKind::Png, _) => "name a .png file",
+        (FileKind::Svg, _) => "name an .svg file",
+        (_, FileKind::Raw) => "add --raw-output",
+        (_, FileKind::Y4m) => "leave out --raw-output",
+        (_, FileKind::Container) => "write a .y4m file and let ffmpeg convert it",
+        _ => "write a frame with yuv show",
+    }
+}
+
+/// What happened to a stream, as a message says it.
+pub struct ShownProblem<'a> {
+    /// The error of the stream.
+    pub error: &'a StreamError,
+}
+
+impl fmt::Display for ShownProblem<'_> {
+    fn fmt(&self, f: &mut fmt::Formatter<'_>) -> fmt::Result {
+        write_stream_error(f, self.error)
+    }
+}
+
+/// Returns whether a stream that is read breaks off, so that what was found before the frame that cannot be read is reported.
+pub fn is_broken(error: &StreamError) -> bool {
+    match (error.place, &error.problem) {
+        (Place::Output, _) => false,
+        (_, Problem::Stream(_)) => true,
+        _ => false,
     }
 }
 
@@ -135,14 +249,25 @@ fn is_of_a_frame(error: &StreamError) -> bool {
     }
 }
 
-/// Writes what happened, and what the system reported.
+/// Writes what happened to a stream, what the user can do, and the error that the system reported.
 fn write_caused(f: &mut fmt::Formatter<'_>, error: &StreamError) -> fmt::Result {
     fmt::Display::fmt(&error.problem, f)?;
-    if let Problem::TooManyPixels(_) = &error.problem {
-        f.write_str("; --max-pixels N allows more")?;
-    }
-    match &error.cause {
-        Some(cause) => write!(f, ": {cause}"),
+    f.write_str(advice_for(&error.problem))?;
+    match error.cause {
+        Some(kind) => {
+            let cause = SystemError { kind };
+            write!(f, ": {cause}")
+        }
         None => Ok(()),
+    }
+}
+
+/// Returns what a message adds for the user to do.
+fn advice_for(problem: &Problem) -> &'static str {
+    match problem {
+        Problem::TooManyPixels(_) => "; --max-pixels N allows more",
+        Problem::SemiPlanar => "; --raw-output writes them",
+        Problem::OtherChroma | Problem::OtherDepth => "; 'yuv copy --format' converts one of them",
+        _ => "",
     }
 }

@@ -2,7 +2,9 @@
 //! What every command of `yuv` has of its system: what it reads, what it writes to, and the line of `--progress`; what its options
 //! ask of streams; why it gives up, and how it ends.
 
+mod above;
 mod fault;
+mod headers;
 mod input;
 mod input_file;
 mod named_frame;
@@ -16,7 +18,12 @@ mod shown;
 mod status;
 mod system;
 
-pub use fault::Fault;
+pub use above::write_above;
+pub use fault::{Fault, ShownProblem, is_broken};
+pub use headers::{
+    HeaderDifferences, declared_range, header_differences, matrix_name, range_name, used_matrix,
+    used_range, write_differences, write_formats, write_size_of_crop,
+};
 pub use input::{begin, expected_frames};
 pub use input_file::InputFile;
 pub use named_frame::{frames_before, read_behind};
@@ -25,7 +32,7 @@ pub use opening::open_file;
 pub use options::{
     copy_sink, most_pixels, stream_comparison, stream_copy, taken_of_both, test_limit, test_pixels,
 };
-pub use output::{Output, is_standard_output};
+pub use output::{Output, Target, is_standard_output, test_target};
 pub use progress::ProgressLine;
 pub use report::{no_memory, write_made, write_text};
 pub use shown::{Shown, counts_shown};

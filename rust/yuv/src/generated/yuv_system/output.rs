@@ -7,7 +7,42 @@ use std::io;
 use std::io::Write;
 use crate::support::fs::Files;
 use v_frame_proved::streams::Place;
-use crate::generated::yuv_files::{SystemFile, TargetFile, Unkept, is_any_read, write_message};
+use crate::generated::yuv_files::{
+    FileKind, SystemFile, TargetFile, Unkept, check_target, is_any_read, target_facts,
+    write_message,
+};
+
+/// A file that a command writes, as its call names it.
+#[derive(Clone, Copy)]
+pub struct Target<'a> {
+    /// The name. `-` is standard output.
+    pub name: &'a str,
+    /// The kind of file that the command writes.
+    pub written: FileKind,
+    /// The names of the files that the command reads.
+    pub inputs: &'a [&'a str],
+    /// Whether `--force` is given, so that the target is written whatever it is.
+    pub is_forced: bool,
+}
+
+/// Tests whether a command may write a target, before anything is read. Standard output takes any kind of file.
+///
+/// # Errors
+///
+/// [`Fault::Target`] if [`check_target`] rejects the target, and [`Fault::Create`] if its name leads nowhere.
+pub fn test_target<H: Files>(rt: &H, target: &Target<'_>) -> Result<(), Fault> {
+    if is_standard_output(target.name) {
+        return Ok(());
+    }
+    let facts = match target_facts(rt, target.name, target.inputs) {
+        Ok(facts) => facts,
+        Err(error) => return Err(Fault::Create(error.kind())),
+    };
+    match check_target(target.written, &facts, target.is_forced) {
+        Ok(()) => Ok(()),
+        Err(error) => Err(Fault::Target(target.written, error)),
+    }
+}
 
 /// A file, or standard output.
 pub enum Output<'a, F, O> {
@@ -43,19 +78,20 @@ pub fn is_standard_output(name: &str) -> bool {
 }
 
 impl<'a, F: OpenFile + SystemFile, O> Output<'a, F, O> {
-    /// Opens a file that is written, or takes standard output for a name of it. One that is written where it stands must not be
-    /// one of those that are read. A message says what of a target can't be kept.
+    /// Opens a target that [`test_target`] accepted, or takes standard output for a name of it. A target that is written where it
+    /// stands must not be one of the files that are read. A message says what of a target can't be kept.
     ///
     /// # Errors
     ///
-    /// [`Fault::Create`] where no file can be made, and [`Fault::ReadAndWritten`] for such a one.
+    /// [`Fault::Create`] if no file can be made, and [`Fault::ReadAndWritten`] if a file that is read would be written where it
+    /// stands.
     pub fn open<H: Files<File = F>, E: Write>(
         rt: &H,
-        name: &str,
-        inputs: &[&str],
+        target: &Target<'_>,
         standard: &'a mut O,
         messages: &mut E,
     ) -> Result<Self, Fault> {
+        let (name, inputs) = (target.name, target.inputs);
         if is_standard_output(name) {
             return Ok(Output::Standard(standard));
         }
