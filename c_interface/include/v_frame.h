@@ -1,20 +1,30 @@
-/*
- * v_frame: calls on video planes whose every statement is proved, down to this boundary.
+/**
+ * @file v_frame.h
+ * v_frame: calls on planes of video, made from proved sources.
  *
- * What each call answers, writes and leaves alone is the contract of a function of the same name in crates/v_frame_c, which the
- * prover has checked; a library that cargo built is made from these sources, and is tested. A call tests all that it can test, and
- * answers a status; where that is not V_FRAME_OK nothing was written. No call takes memory, prints, or keeps a pointer. Each may
- * run in any number of threads at once, over buffers of their own.
+ * The contract of each call is that of the function with the same name in crates/v_frame_c. It says which status the call returns,
+ * what it writes, and that it leaves everything else unchanged. The prover has checked these contracts. A library that cargo built
+ * is translated from the proved sources and is tested. The calls v_frame_psnr_u8, v_frame_psnr_u16 and v_frame_status_text, and
+ * the tests of pointers, are written by hand and tested.
  *
- * What no call can test, and you promise:
- *   - a pointer is not null, also beside a length of 0; it is aligned for its type, and points to as many entries as the length
- *     beside it says;
- *   - what is written (a buffer, a result) overlaps nothing else that the call is given, and nobody else touches it meanwhile.
+ * Statuses. A call tests its arguments and returns a status, which is a uint32_t: V_FRAME_OK, which is 0, or a number of
+ * enum v_frame_status. If the status is not V_FRAME_OK, the call has written nothing. In C++, declare a status as uint32_t, because
+ * C++ does not convert a number to an enum.
  *
- * Rows. A picture is rows of entries in a buffer: row y is the `width` entries from index `stride * y` on. The buffer may be
- * longer, the last row may end at its width, and a call that writes leaves every other entry of the buffer as it was. So crops,
- * single fields (twice the stride), and planes as libavutil and dav1d give them go in as they are. All counts are of entries,
- * of uint8_t in calls that end in _u8, and of uint16_t, in the byte order of the machine, in calls that end in _u16.
+ * Pointers. A pointer that is null, or is not aligned for its type, gives V_FRAME_POINTER. If a length is 0, the pointer beside it
+ * may be null. No call can test the rest, which the caller promises:
+ *   - a pointer points to as many entries as the length beside it says;
+ *   - what a call writes (a buffer or a result) overlaps nothing else that the call is given.
+ *
+ * Threads. The library has no state, takes no memory, and keeps no pointer after a call returns. Any number of threads may call it
+ * at the same time, and they may read the same buffers. While a call writes a buffer or a result, no other thread may read or
+ * write it.
+ *
+ * Rows. A picture is rows of entries in a buffer. Row y is the `width` entries from index `stride * y` on. The buffer may be longer
+ * than the rows, and the last row may end at its width. A call that writes leaves every other entry of the buffer unchanged.
+ * Crops, single fields (with twice the stride), and the planes of libavutil and dav1d are therefore valid arguments without a copy.
+ * All counts are numbers of entries: of uint8_t in calls whose names end in _u8, and of uint16_t in the byte order of the machine
+ * in calls whose names end in _u16.
  */
 #ifndef V_FRAME_H
 #define V_FRAME_H
@@ -33,30 +43,32 @@
 extern "C" {
 #endif
 
-/* What a call answers: V_FRAME_OK, or the first that fails of what it tests: its numbers and formats, then the rows of each
- * buffer in turn, then the sizes. */
+/** The status of a call: V_FRAME_OK, or the first test that fails. A call tests its pointers, then its numbers and formats, then the
+ * rows of each buffer in the order of the parameters, and then the sizes. */
 enum v_frame_status {
-    /* All went as asked. */
+    /** The call has succeeded. */
     V_FRAME_OK = 0,
-    /* The first rows do not fit the first buffer: a size is zero, the stride is below the width, or the last row ends past the
-     * buffer. */
+    /** The first rows do not fit the first buffer: a size is 0, the stride is below the width, or the last row ends past the end of
+     * the buffer. */
     V_FRAME_FIRST_ROWS = 1,
-    /* The second rows do not fit the second buffer. */
+    /** The second rows do not fit the second buffer. */
     V_FRAME_SECOND_ROWS = 2,
-    /* The sizes do not belong together: they differ, or are not what the call says. */
+    /** The sizes of the pictures are not those that the call requires. */
     V_FRAME_SIZES = 3,
-    /* There is no format of this number. */
+    /** The number is not one of enum v_frame_format, or the call does not take this format. */
     V_FRAME_FORMAT = 4,
-    /* A number that stands for a choice, a bit depth or a ratio is none that the call knows. */
+    /** A bit depth, a ratio, a weight, or the number of a choice is out of its range. */
     V_FRAME_NUMBER = 5,
-    /* The third rows do not fit the third buffer. */
+    /** The third rows do not fit the third buffer. */
     V_FRAME_THIRD_ROWS = 6,
-    /* The fourth rows do not fit the fourth buffer. */
+    /** The fourth rows do not fit the fourth buffer. */
     V_FRAME_FOURTH_ROWS = 7,
-    /* A side of the pictures is below 8: no window of 8 by 8 pixels has room. */
+    /** The width or the height of the pictures is below 8, so that no window of 8 by 8 pixels fits. */
     V_FRAME_WINDOWS = 8,
-    /* The fifth rows do not fit the fifth buffer. */
-    V_FRAME_FIFTH_ROWS = 9
+    /** The fifth rows do not fit the fifth buffer. */
+    V_FRAME_FIFTH_ROWS = 9,
+    /** A pointer is null or is not aligned for its type, or a length is too large for any object in memory. */
+    V_FRAME_POINTER = 10
 };
 
 /* Chroma formats. */
@@ -196,6 +208,9 @@ typedef struct v_frame_greatest {
 /* Return the version of the library that is loaded: V_FRAME_VERSION_NUMBER of the header that it was built with. A library whose
  * first two numbers are those of the header keeps all that the header declares: calls, structs, and numbers of enums. */
 uint32_t v_frame_version(void);
+
+/** Returns a description of a status in English, without a period. The text is static. */
+const char *v_frame_status_text(uint32_t status);
 
 /* Sum the squares of the differences of two pictures of one size. */
 uint32_t v_frame_squared_errors_u8(const v_frame_rows *a_rows, const uint8_t *a, size_t a_length, const v_frame_rows *b_rows,
@@ -431,6 +446,14 @@ uint32_t v_frame_mean_squared_error_u8(const v_frame_rows *a_rows, const uint8_t
 uint32_t v_frame_mean_squared_error_u16(const v_frame_rows *a_rows, const uint16_t *a, size_t a_length,
                                         const v_frame_rows *b_rows, const uint16_t *b, size_t b_length, double *error);
 
+/** Measures the peak signal-to-noise ratio of two pictures of one size in decibels: 10 * log10(peak * peak / error), where peak is
+ * 2^depth - 1 and error is the result of v_frame_mean_squared_error. It is infinite if the pictures are the same. The depth is 8, or
+ * `bit_depth`, which is 8 to 16; any other depth gives V_FRAME_NUMBER. The error is proved; the logarithm is that of the C library. */
+uint32_t v_frame_psnr_u8(const v_frame_rows *a_rows, const uint8_t *a, size_t a_length, const v_frame_rows *b_rows,
+                         const uint8_t *b, size_t b_length, double *decibels);
+uint32_t v_frame_psnr_u16(const v_frame_rows *a_rows, const uint16_t *a, size_t a_length, const v_frame_rows *b_rows,
+                          const uint16_t *b, size_t b_length, uint32_t bit_depth, double *decibels);
+
 /* Measure the structural similarity (SSIM) of two pictures of one size, digit for digit as FFmpeg's filter computes it for a plane
  * in C: the mean over windows of 8 by 8 pixels at every fourth column and row. Of 8 bits, or of `bit_depth` bits: V_FRAME_NUMBER
  * unless it is 8 to 16. V_FRAME_WINDOWS where a side is below 8, which is tested last. */
@@ -518,34 +541,6 @@ static inline size_t v_frame_rows_length(const v_frame_rows *rows) {
         return 0;
     }
     return rows->stride * (rows->height - 1) + rows->width;
-}
-
-/* The words for a status. */
-static inline const char *v_frame_status_text(uint32_t status) {
-    switch (status) {
-    case V_FRAME_OK:
-        return "no error";
-    case V_FRAME_FIRST_ROWS:
-        return "the first rows do not fit their buffer";
-    case V_FRAME_SECOND_ROWS:
-        return "the second rows do not fit their buffer";
-    case V_FRAME_SIZES:
-        return "the sizes do not belong together";
-    case V_FRAME_FORMAT:
-        return "there is no such format";
-    case V_FRAME_NUMBER:
-        return "a number is none that the call knows";
-    case V_FRAME_THIRD_ROWS:
-        return "the third rows do not fit their buffer";
-    case V_FRAME_FOURTH_ROWS:
-        return "the fourth rows do not fit their buffer";
-    case V_FRAME_WINDOWS:
-        return "a side is below 8, and SSIM has no window";
-    case V_FRAME_FIFTH_ROWS:
-        return "the fifth rows do not fit their buffer";
-    default:
-        return "unknown status";
-    }
 }
 
 #ifdef __cplusplus

@@ -1,7 +1,7 @@
 """Exports: the functions that C calls, with pointers and lengths where the sources have references and slices.
 
-An export becomes an unsafe function, whose body begins by taking each pointer as what the source has; the rest of it is
-the source's. What takes a pointer stands in one file by hand, `foreign`. An export that requires something, or has a
+An export becomes an unsafe function. Its body begins by taking each pointer as what the source has, and returns a status if a
+pointer is null or not aligned; the rest of the body is the source's. What takes a pointer is in a file written by hand, `foreign`. An export that requires something, or has a
 parameter of another form, is refused.
 """
 
@@ -41,7 +41,7 @@ def rewrite_export(source, item):
         source.refuse(item.keyword, "an export that requires something, which C does not prove")
     if not item.is_public() or item.owner or item.generics or not item.result or source.words(*item.result) != RESULT:
         source.refuse(item.keyword, "an export of a form that is not known")
-    taken, pointers = [], []
+    taken, pointers, status = [], [], f"crate::foreign::POINTER_OF_{source.crate.upper()}"
     for start, at, end in parameters_of(source, item):
         found, name = TYPE.fullmatch(source.words(at + 2, end)), source[at]
         if not found or start != at:
@@ -57,7 +57,7 @@ def rewrite_export(source, item):
             if f"{name}_length" in [source[k] for k in range(item.keyword, item.end)]:
                 source.refuse(start, "a slice whose length has a name that is there")
         call += "_mut" if found["writes"] else ""
-        taken.append(f"let {name} = unsafe {{ crate::foreign::{call}({arguments}) }};")
+        taken.append(f"let Some({name}) = (unsafe {{ crate::foreign::{call}({arguments}) }}) else {{\n        return {status};\n    }};")
         pointers.append((at + 2, end, pointer))
     if taken:
         source.insert(item.body[0] + 1, "foreign-taken", "\n    ".join(taken), "\n    ")

@@ -12,6 +12,7 @@ use Rattle.v_frame_y4m.specs.declared.header.StreamHeader.{StreamHeader}
 use Rattle.v_frame_y4m.specs.declared.error.HeaderError.{HeaderError}
 use Rattle.v_frame_y4m.specs.declared.error.HeaderError.TheVariants.{NotAStream, Missing, Duplicate, Malformed}
 use Rattle.v_frame_y4m.specs.declared.error.HeaderError.TheVariants.{ZeroSize, SizeTooLarge, UnknownColor, OutOfMemory}
+use Rattle.v_frame_y4m_c.specs.Extensions.{range_number}
 use Rattle.v_frame_y4m_c.specs.declared.header.Header.{Header}
 use Rattle.v_frame_y4m_c.specs.declared.header.Ratio.{Ratio}
 
@@ -45,6 +46,7 @@ numbers_of h =
       interlacing = interlacing_number h.interlacing;
       frame_rate = ratio_numbers h.frame_rate;
       pixel_aspect = ratio_numbers h.pixel_aspect;
+      range = range_number h.extensions;
     }
 
 -- what an error answers

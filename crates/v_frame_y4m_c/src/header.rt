@@ -2,6 +2,7 @@
 ghost use Rattle.std.specs.Prelude.{◌≡◌};
 ghost use Rattle.v_frame_y4m_c.specs.Header.{interlacing_number, numbers_of, ratio_numbers, siting_number};
 
+use crate::extensions::range_of;
 use v_frame_slices::formats::number_of_format;
 use v_frame_y4m::{ChromaSiting, Interlacing, Ratio as TheRatio, StreamHeader};
 
@@ -26,6 +27,7 @@ pub struct Header {
     pub bit_depth: u32,
     pub siting: u32,
     pub interlacing: u32,
+    pub range: u32,
 }
 
 impl Header {
@@ -42,6 +44,7 @@ impl Header {
             bit_depth: u32::from(header.color.bit_depth()),
             siting: siting_of(header.color.siting()),
             interlacing: interlacing_of(header.interlacing),
+            range: range_of(header.extensions.as_slice()),
         }
     }
 }

@@ -6,6 +6,7 @@
 #![tactic(auto)]
 
 mod exports;
+mod extensions;
 mod header;
 mod lines;
 mod numbers;

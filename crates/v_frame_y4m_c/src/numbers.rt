@@ -57,6 +57,9 @@ impl Header {
         let Some(siting) = siting_numbered(self.siting) else {
             return Err(NumberFault::NoSuchNumber);
         };
+        if self.range > 2 {
+            return Err(NumberFault::NoSuchNumber);
+        }
         let Some(color) = color_of(format, self.bit_depth, siting) else {
             return Err(NumberFault::NoSuchColor);
         };

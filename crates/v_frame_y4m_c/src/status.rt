@@ -1,8 +1,9 @@
 //! What is answered, and which parameter is at fault.
 ghost use Rattle.std.specs.Prelude.{◌≡◌};
 ghost use Rattle.v_frame_y4m_c.specs.Header.{letter_of, status_of};
-ghost use Rattle.v_frame_y4m_c.specs.Status.{status_of_line, status_of_numbers};
+ghost use Rattle.v_frame_y4m_c.specs.Status.{status_of_extensions, status_of_line, status_of_numbers};
 
+use crate::extensions::ExtensionFault;
 use crate::lines::LineFault;
 use crate::numbers::NumberFault;
 use v_frame_y4m::HeaderError;
@@ -17,8 +18,6 @@ pub const OUT_OF_MEMORY: u32 = 8;
 pub const SHORT_BUFFER: u32 = 10;
 /// Another line stands where that of a frame is due.
 pub const NO_FRAME: u32 = 13;
-/// The line stands for a strict one, which was read.
-pub const LAX_LINE: u32 = 14;
 
 /// Returns the status of an error.
 pub fn status_of(error: &HeaderError) -> u32
@@ -56,6 +55,17 @@ pub fn status_of_numbers(fault: &NumberFault) -> u32
         NumberFault::ZeroSize => 5,
         NumberFault::NoSuchColor => 7,
         NumberFault::NoSuchNumber => 9,
+    }
+}
+
+/// Returns the status of a text that does not state the extensions of a header.
+pub fn status_of_extensions(fault: &ExtensionFault) -> u32
+    ensures { result ≡ status_of_extensions fault.now }
+{
+    match fault {
+        ExtensionFault::OutOfMemory => 8,
+        ExtensionFault::NotExtensions => 15,
+        ExtensionFault::OtherRange => 16,
     }
 }
 

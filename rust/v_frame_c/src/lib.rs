@@ -9,6 +9,7 @@
 // The sources are translated as they are written, for a prover too.
 #![allow(clippy::manual_range_contains, clippy::needless_borrows_for_generic_args, clippy::too_many_arguments)]
 
+mod by_hand;
 mod foreign;
 mod generated {
     pub mod v_frame_c;
