@@ -122,8 +122,8 @@ def test_refusals(installed, room, program, couples):
     not_planar, small = "the format is not planar YUV", clip(room / "small.mkv", "yuv420p", "14x14", "-c:v", "ffv1")
     for words, wanted in [((raw[it], raw[it]), not_planar) for it in raw] + [
             ((room / "upside_down.avi",) * 2, "a line size is negative: the rows go from the bottom up"),
-            ((couples[0][0], couples[1][0]), "two formats or sizes"), ((couples[2][0], longer), "a video has more frames than the other"),
-            ((small, small), "a side is below 8, and SSIM has no window"), ((room / "none", small), "a file cannot be read"),
+            ((couples[0][0], couples[1][0]), "the videos have different formats or sizes"), ((couples[2][0], longer), "one video has more frames than the other"),
+            ((small, small), "a side is below 8, so that no window of SSIM fits"), ((room / "none", small), "a file cannot be read"),
             ((small,), "usage: measure_videos FILE FILE")]:
         same(f"measure_videos {words}", installed.refused([program], *words), f"measure_videos: {wanted}\n")
 

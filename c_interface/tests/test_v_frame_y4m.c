@@ -420,7 +420,7 @@ static void keep_extensions(void) {
     uint8_t line[256];
     size_t needed;
     CHECK(write_with(&header, " Xa", 256, line, &needed) == V_FRAME_Y4M_OK);
-    CHECK(needed == 43 && memcmp(line, "YUV4MPEG2 W4 H2 Cmono XCOLORRANGE=FULL Xa\n", 43) == 0);
+    CHECK(needed == 42 && memcmp(line, "YUV4MPEG2 W4 H2 Cmono XCOLORRANGE=FULL Xa\n", 42) == 0);
 }
 
 static void reject_extensions(void) {
