@@ -131,8 +131,8 @@ class Writers(Room):
         closed.close()
         for answer in (0, -1, 1000, "5", 2.0):
             Stuck.answer = answer
-            self.assertRaisesRegex(y4m.Y4mError, "taken", y4m.write_y4m, Stuck(), HEADER, frames_of((7, 8)))
-            self.assertRaisesRegex(StreamError, "taken", write_png, Stuck(), Plane(bytes(4), 2, 2))
+            self.assertRaisesRegex(y4m.Y4mError, "taken|returned", y4m.write_y4m, Stuck(), HEADER, frames_of((7, 8)))
+            self.assertRaisesRegex(StreamError, "taken|returned", write_png, Stuck(), Plane(bytes(4), 2, 2))
         for stream in (Waits(), closed, io.StringIO(), 5, None):
             self.assertRaises(y4m.Y4mError, y4m.write_y4m, stream, HEADER, frames_of((7, 8)))
             self.assertRaises(StreamError, write_png, stream, Plane(bytes(4), 2, 2))

@@ -90,7 +90,8 @@ class Plane:
     @property
     def __array_interface__(self) -> dict[str, Any]:
         """What numpy reads to make an array over the memory of the plane, which it keeps alive."""
-        width, height, stride, size = self._numbers()
+        with Held(self, "the plane") as held:
+            width, height, stride, size = held.rows.width, held.rows.height, held.rows.stride, held.size
         kind = "|u1" if size == 1 else ("<u2" if sys.byteorder == "little" else ">u2")
         return {"shape": (height, width), "typestr": kind, "strides": (stride * size, size), "data": memoryview(self.buffer), "version": 3}
 
