@@ -172,7 +172,7 @@ class Part(NamedTuple):
     first visible sample, its width, its height and its stride. All are in samples."""
 
     offset: int
-    count: int
+    count: int  # type: ignore[assignment]
     origin: int
     width: int
     height: int

@@ -122,14 +122,15 @@ class Frame(Sequence[P]):
                 planes.append(new_plane(luma, *size, 1 if bits == 8 else 2))
                 fill(planes[-1], 1 << bits - 1)
             else:
-                plane = _at_ratio(self[number], RATIOS[self.format], RATIOS[wanted], size)
+                plane: Any = _at_ratio(self[number], RATIOS[self.format], RATIOS[wanted], size)
                 planes.append(convert_depth(plane, self.depth, bits))
         return Frame(planes, wanted, bits, self.range)
 
     @overload
     def to_rgb(self: Frame[Plane], standard: Standard = "bt709", range: Range | None = None, order: Order = "rgb") -> Plane: ...
     @overload
-    def to_rgb(self, standard: Standard = "bt709", range: Range | None = None, order: Order = "rgb") -> NDArray[np.uint8]: ...
+    def to_rgb(self: Frame[NDArray[np.uint8]] | Frame[NDArray[np.uint16]], standard: Standard = "bt709", range: Range | None = None,
+               order: Order = "rgb") -> NDArray[np.uint8]: ...
     def to_rgb(self, standard: Standard = "bt709", range: Range | None = None, order: Order = "rgb") -> Any:
         """The colors of a frame, of 8 bits, as `rgb` makes them: an array of the shape (height, width, 3) or (height, width, 4), or a
         `Plane`. The default range is the range of the frame, and limited if the frame has none. Chroma is repeated. A frame without

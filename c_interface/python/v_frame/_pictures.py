@@ -36,7 +36,7 @@ class Statistics(NamedTuple):
     """The number of the samples of a plane, their sum and the sum of their squares, both exact, and the least and the greatest
     sample."""
 
-    count: int
+    count: int  # type: ignore[assignment]
     sum: int
     sum_of_squares: int
     minimum: int

@@ -107,8 +107,8 @@ class Plane:
         """The samples of the rows, without what is between the rows."""
         with Held(self, "the plane") as held:
             width, height, stride, size = held.rows.width, held.rows.height, held.rows.stride, held.size
-            data = (ctypes.c_char * (held.length * size)).from_address(held.address)
-            return b"".join(data[start:start + width * size] for start in range(0, stride * height * size, stride * size))
+            starts = range(held.address, held.address + stride * height * size, stride * size)
+            return b"".join(ctypes.string_at(start, width * size) for start in starts)
 
 
 def is_array(value: Any) -> bool:
