@@ -1,10 +1,10 @@
 -- The extensions of a header line as a text, and the range of values that they state.
-use Rattle.std.specs.Prelude.{ℕ, ◌≡◌, ◌≢◌, ◌++◌, ◌⊎◌, ◌∷◌, ◌&&◌, not, if◌then◌else◌, Bool, List, [], Option, None, codes, list_any, map}
+use Rattle.std.specs.Prelude.{ℕ, ◌≡◌, ◌≢◌, ◌++◌, ◌⊎◌, ◌∷◌, ◌&&◌, ◌==◌, not, if◌then◌else◌, Bool, List, [], None, codes, map, ⊤, ⊥}
+use Rattle.std.specs.List.{list_any}
 use Rattle.std.specs.Str.{bytes_eq}
 use Rattle.v_frame_y4m.specs.Faults.{IsRefusedFor}
 use Rattle.v_frame_y4m.specs.Ascii.{extension_letter}
 use Rattle.v_frame_y4m.specs.Header.{spelled, IsHeader, IsWritable}
-use Rattle.v_frame_y4m.specs.declared.color.Color.{Color}
 use Rattle.v_frame_y4m.specs.declared.color.Color.TheVariants.{Unstated}
 use Rattle.v_frame_y4m.specs.declared.error.HeaderError.{HeaderError}
 use Rattle.v_frame_y4m.specs.declared.error.HeaderError.TheVariants.{OutOfMemory as NoMemory}
@@ -31,9 +31,9 @@ extension_texts h = spelled (map (λ extension. extension_letter ∷ extension) 
 
 -- the extension that states the range of a number, as it stands in a header line
 abbrev pub range_text : ℕ → List ℕ
-range_text 1 = codes " XCOLORRANGE=LIMITED"
-range_text 2 = codes " XCOLORRANGE=FULL"
-range_text number = []
+range_text number =
+    if number == 1 then codes " XCOLORRANGE=LIMITED"
+    else if number == 2 then codes " XCOLORRANGE=FULL" else []
 
 -- the header states a picture of one pixel, extensions, and nothing else
 pub record IsBare (h : StreamHeader) : Type 0 where
@@ -65,7 +65,7 @@ AreRefused text OutOfMemory = ⊤
 -- the extensions of a header with this range and a text that states extensions
 pub record HasExtensions (range : ℕ) (text : List ℕ) (extensions : List (List ℕ)) : Type 0 where
   pub said : SaysExtensions text extensions ⊎ SaysExtensions (range_text range ++ text) extensions
-  pub range : range_number extensions ≡ range
+  pub stated : range_number extensions ≡ range
 
 -- why there are none
 abbrev pub HasNoExtensions : ℕ → List ℕ → ExtensionFault → Type 0

@@ -1,5 +1,6 @@
 //! The extensions of a header line, as the text that C holds: for each a space, the letter `X`, and its text.
-ghost use Rattle.std.specs.Prelude.{◌≡◌, ◌≢◌, ◌↔◌, ◌++◌, ◌×◌, ◌∷◌, list_any, map, IfErr, IfOk, IsTrue};
+ghost use Rattle.std.specs.Prelude.{◌≡◌, ◌≢◌, ◌↔◌, ◌++◌, ◌∷◌, map, IfErr, IfOk, IsTrue};
+ghost use Rattle.std.specs.List.{list_any};
 ghost use Rattle.std.specs.Str.{bytes_eq};
 ghost use Rattle.v_frame_y4m.specs.Ascii.{extension_letter};
 ghost use Rattle.v_frame_y4m.specs.Header.{spelled as spelling};
