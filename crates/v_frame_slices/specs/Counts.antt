@@ -1,4 +1,4 @@
--- How many pixels have a value, or one in a range.
+-- Counts of pixels with a value, or with a value in a range.
 use Rattle.std.specs.Prelude.{ℕ, Bool, ◌&&◌, List, count_by, nat_le}
 
 -- the value of a pixel lies between two others, or is one of them

@@ -34,7 +34,7 @@ abbrev pub ratio_numbers : Option TheRatio → Ratio
 ratio_numbers None = record { stated = 0; numerator = 0; denominator = 0 }
 ratio_numbers (Some r) = record { stated = 1; numerator = r.numerator; denominator = r.denominator }
 
--- what a header says, in numbers
+-- the numbers of a header
 abbrev pub numbers_of : StreamHeader → Header
 numbers_of h =
     record {
@@ -49,7 +49,7 @@ numbers_of h =
       range = range_number h.extensions;
     }
 
--- what an error answers
+-- the status of an error
 abbrev pub status_of : HeaderError → ℕ
 status_of NotAStream = 1
 status_of (Missing letter) = 2

@@ -50,7 +50,7 @@ pub record IsWrittenHeader (n : Header) (text : List ℕ) (h : StreamHeader) : T
 abbrev pub IsEmpty : Header → Type 0
 IsEmpty n = (n.width ≡ 0) ⊎ (n.height ≡ 0)
 
--- each number of an enum is one of it, and a ratio that is not stated has no numbers
+-- each number is one of its enum, and a ratio that is not stated has zeros
 pub record IsNumbered (n : Header) : Type 0 where
   pub format : (f : ChromaSubsampling) × (format_number f ≡ n.format)
   pub siting : (s : Option ChromaSiting) × (siting_number s ≡ n.siting)
@@ -65,13 +65,13 @@ pub record IsColorOf (n : Header) (c : Color) : Type 0 where
   pub depth : depth_of c ≡ n.bit_depth
   pub siting : siting_number (siting_of c) ≡ n.siting
 
--- why numbers are of no header that has a line
+-- why no header with a line has the numbers
 abbrev pub HasNoHeader : Header → NumberFault → Type 0
 HasNoHeader n ZeroSize = IsEmpty n
 HasNoHeader n NoSuchNumber = ¬ (IsEmpty n) × ¬ (IsNumbered n)
 HasNoHeader n NoSuchColor = ¬ (IsEmpty n) × (IsNumbered n × ((c : Color) → ¬ (IsColorOf n c)))
 
--- these bytes stand at the front of a buffer, and all after them is as before
+-- the bytes are at the front of a buffer, whose rest is unchanged
 pub record IsWrittenInFront (bytes old new : List ℕ) : Type 0 where
   pub room : length bytes ≤ length old
   pub written : new ≡ bytes ++ drop (length bytes) old

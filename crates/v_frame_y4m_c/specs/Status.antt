@@ -1,4 +1,4 @@
--- What a fault answers, beside the statuses of a line that is parsed.
+-- The statuses of faults other than those of a line that is parsed.
 use Rattle.std.specs.Prelude.{ℕ}
 use Rattle.v_frame_y4m_c.specs.declared.extensions.ExtensionFault.{ExtensionFault}
 use Rattle.v_frame_y4m_c.specs.declared.extensions.ExtensionFault.TheVariants.{NotExtensions, OtherRange, OutOfMemory}
@@ -7,7 +7,7 @@ use Rattle.v_frame_y4m_c.specs.declared.lines.LineFault.TheVariants.{Unfinished,
 use Rattle.v_frame_y4m_c.specs.declared.numbers.NumberFault.{NumberFault}
 use Rattle.v_frame_y4m_c.specs.declared.numbers.NumberFault.TheVariants.{ZeroSize, NoSuchNumber, NoSuchColor}
 
--- the bytes of a frame are too many to be counted
+-- the number of bytes of a frame does not fit `usize`
 abbrev pub size_too_large : ℕ
 size_too_large = 6
 
@@ -17,7 +17,7 @@ out_of_memory = 8
 abbrev pub short_buffer : ℕ
 short_buffer = 10
 
--- another line stands where that of a frame is due
+-- the line is not one that begins a frame
 abbrev pub no_frame : ℕ
 no_frame = 13
 

@@ -1,4 +1,4 @@
-//! What C calls.
+//! The calls of the library for C.
 ghost use Rattle.std.specs.Prelude.{ℕ, ◌≡◌, ◌≢◌, ◌+◌, ◌<◌, ◌≤◌, ◌++◌, ◌∷◌, [], length, take};
 ghost use Rattle.v_frame.specs.Prelude.{usize_max};
 ghost use Rattle.v_frame_y4m.specs.Ascii.{line_feed};

@@ -17,7 +17,7 @@ pub enum ExtensionFault {
     NotExtensions,
     /// The extensions state another range than the header.
     OtherRange,
-    /// A request for memory was refused.
+    /// A request for memory failed.
     OutOfMemory,
 }
 
@@ -109,7 +109,9 @@ fn said(alloc: Global, text: &[u8]) -> Result<Sequence<Sequence<u8>>, ExtensionF
     ensures refused { IfErr result (AreRefused text.now) }
 {
     let mut line = Vec::new(alloc);
-    if line.extend_from_slice(b"YUV4MPEG2 W1 H1").is_err() || line.extend_from_slice(text).is_err() {
+    if line.extend_from_slice(b"YUV4MPEG2 W1 H1").is_err()
+        || line.extend_from_slice(text).is_err()
+    {
         return Err(ExtensionFault::OutOfMemory);
     }
     match parse_header(alloc, line.as_slice()) {

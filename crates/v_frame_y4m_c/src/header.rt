@@ -1,4 +1,4 @@
-//! A header in numbers. Any bytes in these structs are a value.
+//! A header in numbers. Any bytes in these structs are a valid value.
 ghost use Rattle.std.specs.Prelude.{◌≡◌};
 ghost use Rattle.v_frame_y4m_c.specs.Header.{interlacing_number, numbers_of, ratio_numbers, siting_number};
 
@@ -6,7 +6,7 @@ use crate::extensions::range_of;
 use v_frame_slices::formats::number_of_format;
 use v_frame_y4m::{ChromaSiting, Interlacing, Ratio as TheRatio, StreamHeader};
 
-/// Two numbers, where `stated` is 1. Else all three are 0.
+/// Two numbers if `stated` is 1. Otherwise all three are 0.
 #[derive(Drop)]
 #[repr(C)]
 pub struct Ratio {
@@ -15,7 +15,7 @@ pub struct Ratio {
     pub stated: u32,
 }
 
-/// What a header line says.
+/// What a header line states.
 #[derive(Drop)]
 #[repr(C)]
 pub struct Header {
@@ -31,7 +31,7 @@ pub struct Header {
 }
 
 impl Header {
-    /// Returns what a header says, in numbers.
+    /// Returns the numbers of a header.
     pub fn of(header: &StreamHeader) -> Header
         ensures { result ≡ numbers_of header.now }
     {

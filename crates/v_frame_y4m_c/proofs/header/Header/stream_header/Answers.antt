@@ -1,4 +1,4 @@
--- The numbers of what was found are those that were given.
+-- The numbers of the header that was found are the given numbers.
 use Rattle.std.proofs.Common.{arith, refl, ap, ◌∙◌}
 use Rattle.std.proofs.lemmas.Grind.{common_steps}
 use Rattle.v_frame_y4m.specs.declared.header.StreamHeader.{StreamHeader}
