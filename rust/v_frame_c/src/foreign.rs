@@ -20,7 +20,10 @@ pub const POINTER_OF_V_FRAME_Y4M_C: u32 = 14;
 ///
 /// C promises all that the module says.
 pub unsafe fn reference<'a, T>(pointer: *const T) -> Option<&'a T> {
-    pointer.is_aligned().then(|| unsafe { pointer.as_ref() })?
+    if !pointer.is_aligned() {
+        return None;
+    }
+    unsafe { pointer.as_ref() }
 }
 
 /// Returns the value behind a pointer, to be written.
@@ -29,7 +32,10 @@ pub unsafe fn reference<'a, T>(pointer: *const T) -> Option<&'a T> {
 ///
 /// C promises all that the module says.
 pub unsafe fn reference_mut<'a, T>(pointer: *mut T) -> Option<&'a mut T> {
-    pointer.is_aligned().then(|| unsafe { pointer.as_mut() })?
+    if !pointer.is_aligned() {
+        return None;
+    }
+    unsafe { pointer.as_mut() }
 }
 
 /// Returns the entries behind a pointer. If there are none, the pointer may be null.
