@@ -1,8 +1,8 @@
 //! The extensions of a header line, as the text that C holds: for each a space, the letter `X`, and its text.
-ghost use Rattle.std.specs.Prelude.{◌≡◌, ◌≢◌, ◌↔◌, ◌++◌, ◌∷◌, map, IfErr, IfOk, IsTrue};
+ghost use Rattle.std.specs.Prelude.{◌≡◌, ◌≢◌, ◌↔◌, ◌++◌, ◌∷◌, map, IfErr, IfOk, IsTrue, OnOk};
 ghost use Rattle.std.specs.List.{list_any};
 ghost use Rattle.std.specs.Str.{bytes_eq};
-ghost use Rattle.v_frame_y4m.specs.Ascii.{extension_letter};
+ghost use Rattle.v_frame_y4m.specs.Ascii.{extension_letter, space};
 ghost use Rattle.v_frame_y4m.specs.Header.{spelled as spelling};
 ghost use Rattle.v_frame_y4m_c.specs.Extensions.{range_number, range_text as text_of_range, AreRefused, HasExtensions, HasNoExtensions, IsBare, SaysExtensions};
 
@@ -55,10 +55,18 @@ pub fn spelled(alloc: Global, extensions: &[Sequence<u8>]) -> Result<Vec<u8>, Al
 {
     let mut text = Vec::new(alloc);
     for extension in extensions {
-        text.extend_from_slice(b" X")?;
-        text.extend_from_slice(extension.as_slice())?;
+        push(&mut text, extension.as_slice())?;
     }
     Ok(text)
+}
+
+/// Adds a space, the letter `X` and an extension to a text.
+fn push(text: &mut Vec<u8>, extension: &[u8]) -> Result<(), AllocError>
+    ensures { OnOk result (text.new.items ≡ text.old.items ++ space ∷ (extension_letter ∷ extension.now)) }
+{
+    text.push(b' ')?;
+    text.push(b'X')?;
+    text.extend_from_slice(extension)
 }
 
 /// Returns the extensions of a header with the range of a number and the extensions of a text. They are those of the text if
