@@ -1,5 +1,5 @@
 -- The extensions of a header line as a text, and the range of values that they state.
-use Rattle.std.specs.Prelude.{ℕ, ◌≡◌, ◌≢◌, ◌++◌, ◌⊎◌, ◌∷◌, ◌&&◌, ◌==◌, not, if◌then◌else◌, Bool, List, [], None, codes, map, ⊤, ⊥}
+use Rattle.std.specs.Prelude.{ℕ, ◌≡◌, ◌≢◌, ◌++◌, ◌⊎◌, ◌∷◌, ◌&&◌, ◌==◌, not, if◌then◌else◌, Bool, List, [], None, codes, map, ⊤}
 use Rattle.std.specs.List.{list_any}
 use Rattle.std.specs.Str.{bytes_eq}
 use Rattle.v_frame_y4m.specs.Faults.{IsRefusedFor}
