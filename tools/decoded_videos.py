@@ -122,14 +122,14 @@ def test_refusals(installed, room, program, couples):
     not_planar, small = "the format is not planar YUV", clip(room / "small.mkv", "yuv420p", "14x14", "-c:v", "ffv1")
     for words, wanted in [((raw[it], raw[it]), not_planar) for it in raw] + [
             ((room / "upside_down.avi",) * 2, "a line size is negative: the rows go from the bottom up"),
-            ((couples[0][0], couples[1][0]), "two formats or sizes"), ((couples[2][0], longer), "a video has more frames than the other"),
-            ((small, small), "a side is below 8, and SSIM has no window"), ((room / "none", small), "a file cannot be read"),
+            ((couples[0][0], couples[1][0]), "the videos have different formats or sizes"), ((couples[2][0], longer), "one video has more frames than the other"),
+            ((small, small), "a side is below 8, so that no window of SSIM fits"), ((room / "none", small), "a file cannot be read"),
             ((small,), "usage: measure_videos FILE FILE")]:
         same(f"measure_videos {words}", installed.refused([program], *words), f"measure_videos: {wanted}\n")
 
 
 def test_av1(installed, room):
-    """Checks that a stream by libdav1d and libv_frame_y4m equals the stream that dav1d writes, byte for byte."""
+    """A stream by libdav1d and libv_frame_y4m is the one that dav1d writes, byte for byte, with the range of the video in its header."""
     encoders = [it for it in ("libaom-av1", "libsvtav1") if it in ffmpeg("-encoders")]
     if not encoders:
         return print("av1_to_y4m is skipped: ffmpeg has no AV1 encoder")
@@ -137,9 +137,12 @@ def test_av1(installed, room):
     for format, size in AV1 if encoders[0] == "libaom-av1" else [("yuv420p", "66x66"), ("yuv420p10le", "66x66")]:
         coded = clip(room / f"{format}.obu", format, size, "-c:v", encoders[0], "-f", "obu")
         run("dav1d", "--quiet", "--input", coded, "--output", room / "of_dav1d.y4m")
-        with open(room / "of_example.y4m", "wb") as out:
-            subprocess.run([program, coded], stdout=out, env=installed.environment, check=True)
-        same(f"av1_to_y4m of {format}", (room / "of_example.y4m").read_bytes(), (room / "of_dav1d.y4m").read_bytes())
+        found = subprocess.run([program, coded], stdout=subprocess.PIPE, env=installed.environment, check=True).stdout
+        line, end, frames = (room / "of_dav1d.y4m").read_bytes().partition(b"\n")
+        asked = ["-v", "error", "-show_entries", "stream=color_range", "-of", "csv=p=0", coded]
+        range_of = b" XCOLORRANGE=" + (b"FULL" if run("ffprobe", *asked).strip() == "pc" else b"LIMITED")
+        wanted = line + range_of * (b" XCOLORRANGE=" not in line) + end + frames
+        same(f"av1_to_y4m of {format}", found == wanted, True)
         count += 1
     (room / "no.obu").write_bytes(b"no AV1 here")
     for words in ([room / "no.obu"], [room / "none"], []):

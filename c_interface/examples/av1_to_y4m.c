@@ -6,14 +6,15 @@
 #include <v_frame.h>
 #include <v_frame_y4m.h>
 
-/* Writes the header line. Such a file states no frame rate: dav1d writes 25:1 then. */
+/* Writes the header line with the range of the video. The file states no frame rate, so the header states 25:1, as dav1d does. */
 static void write_header(const Dav1dPicture *it, uint32_t format) {
     const uint32_t siting = it->seq_hdr->chr == DAV1D_CHR_VERTICAL ? V_FRAME_Y4M_LEFT : V_FRAME_Y4M_CENTER;
-    v_frame_y4m_header said = {(size_t)it->p.w, (size_t)it->p.h, {25, 1, 1}, {1, 1, 1}, 0, 0, siting, V_FRAME_Y4M_PROGRESSIVE};
+    const uint32_t range = it->seq_hdr->color_range ? V_FRAME_Y4M_FULL : V_FRAME_Y4M_LIMITED;
+    v_frame_y4m_header header = {(size_t)it->p.w, (size_t)it->p.h, {25, 1, 1}, {1, 1, 1}, 0, 0, siting, V_FRAME_Y4M_PROGRESSIVE, range};
     uint8_t line[256];
     size_t length;
-    v_frame_y4m_set_format(&said, format, (uint32_t)it->p.bpc);
-    const uint32_t status = v_frame_y4m_write_header(&said, line, sizeof line, &length);
+    v_frame_y4m_set_format(&header, format, (uint32_t)it->p.bpc);
+    const uint32_t status = v_frame_y4m_write_header(&header, NULL, 0, line, sizeof line, &length);
     if (status != V_FRAME_Y4M_OK || fwrite(line, length, 1, stdout) != 1) errx(2, "the header cannot be written");
 }
 
@@ -57,4 +58,8 @@ int main(int argc, char **argv) {
         write_frame(&it, formats[it.p.layout]);
         dav1d_picture_unref(&it);
     }
+    dav1d_data_unref(&data);
+    dav1d_close(&decoder);
+    fclose(file);
+    return 0;
 }

@@ -28,7 +28,15 @@ static decoded_video opened(const char *name) {
     return it;
 }
 
-/* Returns the next frame, which is there until the next call; NULL after the last one. */
+/* Closes a video and releases its memory. */
+static void close_video(decoded_video *it) {
+    av_frame_free(&it->frame);
+    av_packet_free(&it->packet);
+    avcodec_free_context(&it->decoder);
+    avformat_close_input(&it->file);
+}
+
+/* Returns the next frame, which is valid until the next call, and NULL after the last one. */
 static const AVFrame *next_frame(decoded_video *it) {
     int status;
     while ((status = avcodec_receive_frame(it->decoder, it->frame)) == AVERROR(EAGAIN)) {

@@ -43,7 +43,7 @@ int main(int argc, char **argv) {
     double peak = 0;
     const AVFrame *a, *b;
     while (a = next_frame(&one), b = next_frame(&other), a != NULL && b != NULL) {
-        need(a->format == b->format && a->width == b->width && a->height == b->height, "two formats or sizes");
+        need(a->format == b->format && a->width == b->width && a->height == b->height, "the videos have different formats or sizes");
         const AVPixFmtDescriptor *format = av_pix_fmt_desc_get(a->format);
         peak = (1 << format->comp[0].depth) - 1;
         for (int plane = 0; plane < format->nb_components; plane++) {
@@ -52,9 +52,12 @@ int main(int argc, char **argv) {
             add(&sums[3], it);
         }
     }
-    need(a == NULL && b == NULL, "a video has more frames than the other");
+    need(a == NULL && b == NULL, "one video has more frames than the other");
     for (int it = 0; it < 4; it++) {
         const double error = sums[it].error / sums[it].count, similarity = sums[it].similarity / sums[it].count;
         if (sums[it].count > 0) printf("%s PSNR %f SSIM %f\n", names[it], 10 * log10(peak * peak / error), similarity);
     }
+    close_video(&one);
+    close_video(&other);
+    return 0;
 }

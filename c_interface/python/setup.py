@@ -1,7 +1,8 @@
 """Builds the wheel: the module, the library for C beside it, and the program `yuv` with its manual page.
 
-Cargo builds the library and the program from the folder rust of this checkout, as `tools/install --cargo` does. They need no Python,
-so a wheel is for every version from 3.10 on, on the system and the processor where it was built.
+Cargo builds the library and the program from the folder rust of this checkout, as `tools/install --cargo` does. They need no Python, so
+a wheel is for each version from 3.10 on, on the system and the processor where it was built. A source distribution has a copy of what
+cargo builds from, in a folder `checkout`.
 """
 import os
 import shutil
@@ -11,20 +12,26 @@ from pathlib import Path
 
 from setuptools import Distribution, setup
 from setuptools.command.build_py import build_py
+from setuptools.command.sdist import sdist
 
 try:
     from setuptools.command.bdist_wheel import bdist_wheel
 except ImportError:
     from wheel.bdist_wheel import bdist_wheel
 
-TOP = Path(__file__).resolve().parents[2]
+HERE = Path(__file__).resolve().parent
+#: The folder of the sources of the library: that of a source distribution, or the checkout.
+OWN = HERE / "checkout"
+TOP = OWN if OWN.is_dir() else HERE.parents[1]
+#: What a build reads of it.
+PARTS = ("rust", "docs/PYTHON.md", "docs/yuv.1", "LICENSE")
 TARGET = Path(os.environ.get("CARGO_TARGET_DIR", TOP / "rust/target"))
 BUILT = TARGET / os.environ.get("CARGO_BUILD_TARGET", "")
 
 
 def by_cargo(profile, package):
     if not (TOP / "rust/Cargo.toml").exists():
-        sys.exit("the sources of the library are not here: install from the folder c_interface/python of a checkout")
+        sys.exit(f"there is no {TOP}/rust: install from the folder c_interface/python of a checkout, or from a source distribution")
     if not shutil.which("cargo"):
         sys.exit("there is no cargo on the path, which builds the library: https://www.rust-lang.org/tools/install")
     command = ["cargo", "build", "--locked", "--profile", profile, "--package", package, "--target-dir", TARGET]
@@ -47,6 +54,20 @@ class BuildWithCargo(build_py):
         self.distribution.data_files = [("bin", [os.path.relpath(BUILT / "release/yuv")]), ("share/man/man1", [page])]
 
 
+class WithSources(sdist):
+    """Adds what cargo builds from."""
+
+    def make_release_tree(self, base_dir, files):
+        super().make_release_tree(base_dir, files)
+        for part in PARTS:
+            source, target = TOP / part, Path(base_dir) / "checkout" / part
+            target.parent.mkdir(parents=True, exist_ok=True)
+            if source.is_dir():
+                shutil.copytree(source, target, ignore=shutil.ignore_patterns("target", "__pycache__"))
+            else:
+                shutil.copy(source, target)
+
+
 class AnyPython(bdist_wheel):
     def get_tag(self):
         return "py3", "none", super().get_tag()[2]
@@ -59,7 +80,7 @@ class WithLibrary(Distribution):
 
 setup(
     distclass=WithLibrary,
-    cmdclass={"build_py": BuildWithCargo, "bdist_wheel": AnyPython},
+    cmdclass={"build_py": BuildWithCargo, "bdist_wheel": AnyPython, "sdist": WithSources},
     long_description=(TOP / "docs/PYTHON.md").read_text(encoding="utf-8"),
     long_description_content_type="text/markdown",
 )

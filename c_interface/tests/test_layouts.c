@@ -5,6 +5,7 @@
 #define _DEFAULT_SOURCE
 #include "v_frame.h"
 
+#include <math.h>
 #include <stdio.h>
 #include <stdlib.h>
 #include <string.h>

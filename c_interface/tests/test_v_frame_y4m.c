@@ -1,7 +1,7 @@
 /*
- * Streams in memory in C, each status of each call once; random headers written and parsed back; lines cut off at each byte.
- * With -DREFUSING and -Wl,--wrap=malloc also each request for memory refused in turn: then the status says so, and the results
- * are as they were.
+ * Tests streams in memory in C: each status of each call, random headers that are written and parsed back, lines that are cut off at
+ * each byte, and ranges and extensions. With -DREFUSING and -Wl,--wrap=malloc it also lets each request for memory fail in turn; the
+ * status then says so, and the results are unchanged.
  */
 #include "v_frame.h"
 #include "v_frame_y4m.h"
@@ -23,6 +23,9 @@ static void check(int holds, const char *what, int line) {
 
 #define CHECK(condition) check((condition), #condition, __LINE__)
 
+/* What the last line that was parsed or found was. */
+static uint32_t is_lax;
+
 static uint32_t parse(const char *text, v_frame_y4m_header *header, uint32_t *letter) {
     size_t length = strlen(text);
     uint8_t *line = malloc(length + (length == 0));
@@ -30,8 +33,10 @@ static uint32_t parse(const char *text, v_frame_y4m_header *header, uint32_t *le
     memcpy(line, text, length);
     memset(header, 9, sizeof *header);
     *letter = 9;
-    uint32_t status = v_frame_y4m_parse_header(line, length, header, letter);
+    is_lax = 9;
+    uint32_t status = v_frame_y4m_parse_header(line, length, header, letter, &is_lax);
     free(line);
+    CHECK(is_lax <= 1 && (status == V_FRAME_Y4M_OK || is_lax == 0));
     return status;
 }
 
@@ -58,7 +63,7 @@ static void refuse_each(void) {
     while (status != V_FRAME_Y4M_OK) {
         header = untouched;
         granted = refused;
-        status = v_frame_y4m_parse_header(line, sizeof line - 1, &header, &letter);
+        status = v_frame_y4m_parse_header(line, sizeof line - 1, &header, &letter, &is_lax);
         granted = SIZE_MAX;
         CHECK(status == V_FRAME_Y4M_OK || status == V_FRAME_Y4M_OUT_OF_MEMORY);
         CHECK(status == V_FRAME_Y4M_OK || memcmp(&header, &untouched, sizeof header) == 0);
@@ -70,11 +75,19 @@ static void refuse_each(void) {
     memset(buffer, 9, sizeof buffer);
     for (refused = 0, status = V_FRAME_Y4M_OUT_OF_MEMORY; status != V_FRAME_Y4M_OK; refused++) {
         granted = refused;
-        status = v_frame_y4m_write_header(&header, buffer, sizeof buffer, &needed);
+        status = v_frame_y4m_write_header(&header, (const uint8_t *)" XA=1", 5, buffer, sizeof buffer, &needed);
         granted = SIZE_MAX;
         CHECK(status == V_FRAME_Y4M_OK || (status == V_FRAME_Y4M_OUT_OF_MEMORY && needed == 9 && buffer[0] == 9));
     }
     CHECK(refused > 1);
+    memset(buffer, 9, sizeof buffer);
+    for (refused = 0, needed = 9, status = V_FRAME_Y4M_OUT_OF_MEMORY; status != V_FRAME_Y4M_OK; refused++) {
+        granted = refused;
+        status = v_frame_y4m_extensions(line, sizeof line - 1, buffer, sizeof buffer, &needed);
+        granted = SIZE_MAX;
+        CHECK(status == V_FRAME_Y4M_OK || (status == V_FRAME_Y4M_OUT_OF_MEMORY && needed == 9 && buffer[0] == 9));
+    }
+    CHECK(refused > 1 && needed == 10 && memcmp(buffer, " XA=1 XB=2", 10) == 0);
     size_t bytes = 9;
     granted = 0;
     status = v_frame_y4m_frame_bytes(&header, &bytes);
@@ -94,7 +107,14 @@ static uint32_t find(uint32_t (*call)(const uint8_t *, size_t, size_t *), const 
     *length = 9999;
     uint32_t status = call(block, size, length);
     free(block);
-    CHECK(status == V_FRAME_Y4M_OK || status == V_FRAME_Y4M_LAX_LINE || *length == 9999);
+    CHECK(status == V_FRAME_Y4M_OK || *length == 9999);
+    return status;
+}
+
+static uint32_t frame_line(const uint8_t *bytes, size_t size, size_t *length) {
+    is_lax = 9;
+    uint32_t status = v_frame_y4m_frame_line(bytes, size, length, &is_lax);
+    CHECK(is_lax <= 1 && (status == V_FRAME_Y4M_OK || is_lax == 0));
     return status;
 }
 
@@ -104,19 +124,19 @@ static void find_lines(void) {
     for (size_t size = 0; size < sizeof stream; size++) {
         uint32_t wanted = size < 9 ? V_FRAME_Y4M_UNFINISHED_LINE : V_FRAME_Y4M_OK;
         CHECK(find(v_frame_y4m_first_line, stream, size, &length) == wanted && (size < 9 || length == 9));
-        CHECK(find(v_frame_y4m_frame_line, stream, size, &length) == wanted && (size < 9 || length == 9));
+        CHECK(find(frame_line, stream, size, &length) == wanted && (size < 9 || length == 9));
     }
-    CHECK(find(v_frame_y4m_frame_line, "FRAME\n\n", 7, &length) == V_FRAME_Y4M_OK && length == 6);
+    CHECK(find(frame_line, "FRAME\n\n", 7, &length) == V_FRAME_Y4M_OK && length == 6);
     static const char *const others[] = {"\n", "FRAM\n", "FRAMES\n", "frame\n", " FRAME\n", "FRAME\r\r\n", "FRAMEX\r\n"};
     for (size_t i = 0; i < sizeof others / sizeof others[0]; i++) {
-        CHECK(find(v_frame_y4m_frame_line, others[i], strlen(others[i]), &length) == V_FRAME_Y4M_NO_FRAME);
+        CHECK(find(frame_line, others[i], strlen(others[i]), &length) == V_FRAME_Y4M_NO_FRAME);
         CHECK(find(v_frame_y4m_first_line, others[i], strlen(others[i]), &length) == V_FRAME_Y4M_OK);
         CHECK(length == strlen(others[i]));
     }
     static const char *const lax[] = {"FRAME\r\n", "FRAME Ip\r\n", "FRAME  \r\n"};
     for (size_t i = 0; i < sizeof lax / sizeof lax[0]; i++) {
-        uint32_t wanted = i == 0 ? V_FRAME_Y4M_LAX_LINE : V_FRAME_Y4M_OK;
-        CHECK(find(v_frame_y4m_frame_line, lax[i], strlen(lax[i]), &length) == wanted && length == strlen(lax[i]));
+        CHECK(find(frame_line, lax[i], strlen(lax[i]), &length) == V_FRAME_Y4M_OK && length == strlen(lax[i]));
+        CHECK(is_lax == (i == 0));
     }
     /* A line may have 1024 bytes; a line feed further on is not looked for. */
     char line[2048];
@@ -128,7 +148,7 @@ static void find_lines(void) {
             uint32_t wanted = feed < size && feed <= 1024 ? V_FRAME_Y4M_OK
                               : size > 1024               ? V_FRAME_Y4M_LINE_TOO_LONG
                                                           : V_FRAME_Y4M_UNFINISHED_LINE;
-            CHECK(find(v_frame_y4m_frame_line, line, size, &length) == wanted);
+            CHECK(find(frame_line, line, size, &length) == wanted);
             CHECK(wanted != V_FRAME_Y4M_OK || length == feed + 1);
             CHECK(find(v_frame_y4m_first_line, line, size, &length) == wanted);
         }
@@ -170,6 +190,7 @@ static v_frame_y4m_header random_header(void) {
     header.bit_depth = header.format == V_FRAME_Y4M_411 ? 8 : depths[random_below(6)];
     header.siting = header.format == V_FRAME_Y4M_420 && header.bit_depth == 8 ? 1 + (uint32_t)random_below(3) : 0;
     header.interlacing = (uint32_t)random_below(6);
+    header.range = (uint32_t)random_below(3);
     return header;
 }
 
@@ -180,16 +201,21 @@ static int same_ratio(const v_frame_y4m_ratio *a, const v_frame_y4m_ratio *b) {
 static int same_header(const v_frame_y4m_header *a, const v_frame_y4m_header *b) {
     return a->width == b->width && a->height == b->height && same_ratio(&a->frame_rate, &b->frame_rate) &&
            same_ratio(&a->pixel_aspect, &b->pixel_aspect) && a->format == b->format && a->bit_depth == b->bit_depth &&
-           a->siting == b->siting && a->interlacing == b->interlacing;
+           a->siting == b->siting && a->interlacing == b->interlacing && a->range == b->range;
 }
 
 /* Writes a header into a block of this size, and sees that all after its line, and all where it is refused, is as it was. */
-static uint32_t write_into(const v_frame_y4m_header *header, size_t size, uint8_t *line, size_t *needed) {
+static uint32_t write_with(const v_frame_y4m_header *header, const char *extensions, size_t size, uint8_t *line, size_t *needed) {
     uint8_t *block = malloc(size + (size == 0));
     CHECK(block != NULL);
     memset(block, 9, size);
     *needed = 9999;
-    uint32_t status = v_frame_y4m_write_header(header, block, size, needed);
+    size_t length = strlen(extensions);
+    uint8_t *text = malloc(length + (length == 0));
+    CHECK(text != NULL);
+    memcpy(text, extensions, length);
+    uint32_t status = v_frame_y4m_write_header(header, length == 0 ? NULL : text, length, block, size, needed);
+    free(text);
     for (size_t i = status == V_FRAME_Y4M_OK ? *needed : 0; i < size; i++) {
         CHECK(block[i] == 9);
     }
@@ -199,6 +225,10 @@ static uint32_t write_into(const v_frame_y4m_header *header, size_t size, uint8_
     }
     free(block);
     return status;
+}
+
+static uint32_t write_into(const v_frame_y4m_header *header, size_t size, uint8_t *line, size_t *needed) {
+    return write_with(header, "", size, line, needed);
 }
 
 static void write_and_parse_back(void) {
@@ -211,7 +241,7 @@ static void write_and_parse_back(void) {
         CHECK(write_into(&header, needed - 1, line, &length) == V_FRAME_Y4M_SHORT_BUFFER && length == needed);
         CHECK(write_into(&header, needed + (size_t)random_below(3), line, &length) == V_FRAME_Y4M_OK && length == needed);
         CHECK(find(v_frame_y4m_first_line, line, needed, &length) == V_FRAME_Y4M_OK && length == needed);
-        CHECK(v_frame_y4m_parse_header(line, needed - 1, &found, &letter) == V_FRAME_Y4M_OK);
+        CHECK(v_frame_y4m_parse_header(line, needed - 1, &found, &letter, &is_lax) == V_FRAME_Y4M_OK && is_lax == 0);
         CHECK(same_header(&header, &found));
         for (size_t size = 0; n < 30 && size < needed; size++) {
             CHECK(find(v_frame_y4m_first_line, line, size, &length) == V_FRAME_Y4M_UNFINISHED_LINE);
@@ -223,7 +253,7 @@ static void write_and_parse_back(void) {
 #define WITH(field, value) (header = plain, header.field = (value), &header)
 
 static void refuse_numbers(void) {
-    static const v_frame_y4m_header plain = {5, 3, {25, 1, 1}, {0, 0, 0}, V_FRAME_Y4M_420, 8, V_FRAME_Y4M_CENTER, 0};
+    static const v_frame_y4m_header plain = {5, 3, {25, 1, 1}, {0, 0, 0}, V_FRAME_Y4M_420, 8, V_FRAME_Y4M_CENTER, 0, 0};
     v_frame_y4m_header header;
     uint8_t line[256];
     size_t needed, count = 9999;
@@ -237,6 +267,7 @@ static void refuse_numbers(void) {
     REFUSED(format, 5, V_FRAME_Y4M_NO_SUCH_NUMBER);
     REFUSED(siting, 4, V_FRAME_Y4M_NO_SUCH_NUMBER);
     REFUSED(interlacing, 6, V_FRAME_Y4M_NO_SUCH_NUMBER);
+    REFUSED(range, 3, V_FRAME_Y4M_NO_SUCH_NUMBER);
     REFUSED(frame_rate.stated, 0, V_FRAME_Y4M_NO_SUCH_NUMBER);
     REFUSED(frame_rate.stated, 2, V_FRAME_Y4M_NO_SUCH_NUMBER);
     REFUSED(pixel_aspect.denominator, 1, V_FRAME_Y4M_NO_SUCH_NUMBER);
@@ -251,6 +282,7 @@ static void refuse_numbers(void) {
         REFUSED(format, number % 5 + more[i], V_FRAME_Y4M_NO_SUCH_NUMBER);
         REFUSED(siting, number % 4 + more[i], V_FRAME_Y4M_NO_SUCH_NUMBER);
         REFUSED(interlacing, number + more[i], V_FRAME_Y4M_NO_SUCH_NUMBER);
+        REFUSED(range, number % 3 + more[i], V_FRAME_Y4M_NO_SUCH_NUMBER);
         REFUSED(frame_rate.stated, 1 + more[i], V_FRAME_Y4M_NO_SUCH_NUMBER);
         REFUSED(pixel_aspect.stated, number % 2 + more[i], V_FRAME_Y4M_NO_SUCH_NUMBER);
         REFUSED(bit_depth, 8 + more[i], V_FRAME_Y4M_UNKNOWN_COLOR);
@@ -265,7 +297,7 @@ static void layouts(void) {
     FIELD(v_frame_y4m_ratio, numerator, 0);
     FIELD(v_frame_y4m_ratio, denominator, 8);
     FIELD(v_frame_y4m_ratio, stated, 16);
-    CHECK(sizeof(v_frame_y4m_header) == numbers + 16);
+    CHECK(sizeof(v_frame_y4m_header) == numbers + 24);
     FIELD(v_frame_y4m_header, width, 0);
     FIELD(v_frame_y4m_header, height, n);
     FIELD(v_frame_y4m_header, frame_rate, 2 * n);
@@ -274,6 +306,7 @@ static void layouts(void) {
     FIELD(v_frame_y4m_header, bit_depth, numbers + 4);
     FIELD(v_frame_y4m_header, siting, numbers + 8);
     FIELD(v_frame_y4m_header, interlacing, numbers + 12);
+    FIELD(v_frame_y4m_header, range, numbers + 16);
 #undef FIELD
 }
 
@@ -322,7 +355,7 @@ static void count_bytes(void) {
         size_t wanted = (header.width * header.height + 2 * chroma) * (header.bit_depth == 8 ? 1 : 2);
         CHECK(v_frame_y4m_frame_bytes(&header, &count) == V_FRAME_Y4M_OK && count == wanted);
     }
-    header = (v_frame_y4m_header){SIZE_MAX, 1, {0, 0, 0}, {0, 0, 0}, V_FRAME_Y4M_MONOCHROME, 8, 0, 0};
+    header = (v_frame_y4m_header){SIZE_MAX, 1, {0, 0, 0}, {0, 0, 0}, V_FRAME_Y4M_MONOCHROME, 8, 0, 0, 0};
     CHECK(v_frame_y4m_frame_bytes(&header, &count) == V_FRAME_Y4M_OK && count == SIZE_MAX);
     count = 9999;
     CHECK(v_frame_y4m_frame_bytes((header.bit_depth = 9, &header), &count) == V_FRAME_Y4M_SIZE_TOO_LARGE && count == 9999);
@@ -345,9 +378,66 @@ static void read_lax_lines(void) {
     for (size_t i = 0; i < sizeof lines / sizeof lines[0]; i++) {
         v_frame_y4m_header header;
         uint32_t letter;
-        CHECK(parse(lines[i][0], &header, &letter) == V_FRAME_Y4M_LAX_LINE && letter == 9);
+        CHECK(parse(lines[i][0], &header, &letter) == V_FRAME_Y4M_OK && letter == 0 && is_lax == 1);
         CHECK(has_line(&header, lines[i][1]));
     }
+}
+
+/* Each line is written as it was read: its range, and its extensions in their order. A parameter X may be any text. */
+static void keep_extensions(void) {
+    static const struct {
+        const char *text;
+        uint32_t range;
+    } lines[] = {
+        {"", V_FRAME_Y4M_NO_RANGE},
+        {" XCOLORRANGE=FULL", V_FRAME_Y4M_FULL},
+        {" XCOLORRANGE=LIMITED", V_FRAME_Y4M_LIMITED},
+        {" XYSCSS=420JPEG XCOLORRANGE=FULL X Xpart=1", V_FRAME_Y4M_FULL},
+        {" XCOLORRANGE=FULL XCOLORRANGE=FULL", V_FRAME_Y4M_FULL},
+        {" XCOLORRANGE=FULL XCOLORRANGE=LIMITED", V_FRAME_Y4M_NO_RANGE},
+        {" XCOLORRANGE=full XCOLORRANGE=FULL_ XXCOLORRANGE=FULL", V_FRAME_Y4M_NO_RANGE},
+    };
+    for (size_t i = 0; i < sizeof lines / sizeof lines[0]; i++) {
+        char line[256], again[300];
+        uint8_t extensions[256], written[256];
+        size_t length, needed;
+        uint32_t letter;
+        v_frame_y4m_header header;
+        snprintf(line, sizeof line, "YUV4MPEG2 W4 H2 C420jpeg%s", lines[i].text);
+        CHECK(parse(line, &header, &letter) == V_FRAME_Y4M_OK && header.range == lines[i].range && is_lax == 0);
+        memset(extensions, 9, sizeof extensions);
+        const size_t size = strlen(lines[i].text);
+        CHECK(size == 0 || (v_frame_y4m_extensions((const uint8_t *)line, strlen(line), extensions, size - 1, &length) ==
+                            V_FRAME_Y4M_SHORT_BUFFER && length == size && extensions[0] == 9));
+        CHECK(v_frame_y4m_extensions((const uint8_t *)line, strlen(line), extensions, sizeof extensions, &length) == V_FRAME_Y4M_OK);
+        CHECK(length == size && memcmp(extensions, lines[i].text, size) == 0 && extensions[size] == 9);
+        CHECK(v_frame_y4m_write_header(&header, extensions, length, written, sizeof written, &needed) == V_FRAME_Y4M_OK);
+        snprintf(again, sizeof again, "%s\n", line);
+        CHECK(needed == strlen(again) && memcmp(written, again, needed) == 0);
+    }
+    /* The range of the struct is written where the text has none. */
+    v_frame_y4m_header header = {4, 2, {0, 0, 0}, {0, 0, 0}, V_FRAME_Y4M_MONOCHROME, 8, 0, 0, V_FRAME_Y4M_FULL};
+    uint8_t line[256];
+    size_t needed;
+    CHECK(write_with(&header, " Xa", 256, line, &needed) == V_FRAME_Y4M_OK);
+    CHECK(needed == 42 && memcmp(line, "YUV4MPEG2 W4 H2 Cmono XCOLORRANGE=FULL Xa\n", 42) == 0);
+}
+
+static void reject_extensions(void) {
+    static const v_frame_y4m_header plain = {5, 3, {25, 1, 1}, {0, 0, 0}, V_FRAME_Y4M_444, 8, 0, 0, V_FRAME_Y4M_LIMITED};
+    static const char *const texts[] = {"Xa", " F25:1", " Xa F25:1", " W2", "0", "0 Xa", " ", " Xa ", "  Xa", " Xa\nFRAME", " C444", " Ip", " A1:1", "\r"};
+    uint8_t line[512];
+    size_t needed, length = 9999;
+    for (size_t i = 0; i < sizeof texts / sizeof texts[0]; i++) {
+        CHECK(write_with(&plain, texts[i], sizeof line, line, &needed) == V_FRAME_Y4M_NOT_EXTENSIONS);
+    }
+    CHECK(write_with(&plain, " XCOLORRANGE=FULL", sizeof line, line, &needed) == V_FRAME_Y4M_OTHER_RANGE);
+    v_frame_y4m_header header = plain;
+    header.range = V_FRAME_Y4M_NO_RANGE;
+    CHECK(write_with(&header, " Xa XCOLORRANGE=FULL", sizeof line, line, &needed) == V_FRAME_Y4M_OTHER_RANGE);
+    /* A line that is no header has no extensions. */
+    CHECK(v_frame_y4m_extensions((const uint8_t *)"YUV4MPEG2 W4 Xa", 15, line, sizeof line, &length) == V_FRAME_Y4M_MISSING);
+    CHECK(v_frame_y4m_extensions((const uint8_t *)"", 0, line, sizeof line, &length) == V_FRAME_Y4M_NOT_A_STREAM && length == 9999);
 }
 
 int main(void) {
@@ -364,13 +454,16 @@ int main(void) {
     CHECK(header.width == 1920 && header.height == 1080 && header.format == V_FRAME_Y4M_422 && header.bit_depth == 10);
     CHECK(header.frame_rate.stated == 1 && header.frame_rate.numerator == 30000 && header.frame_rate.denominator == 1001);
     CHECK(header.pixel_aspect.stated == 1 && header.pixel_aspect.numerator == 1 && header.pixel_aspect.denominator == 1);
-    CHECK(header.interlacing == V_FRAME_Y4M_TOP_FIRST && header.siting == V_FRAME_Y4M_NO_SITING && letter == 9);
+    CHECK(header.interlacing == V_FRAME_Y4M_TOP_FIRST && header.siting == V_FRAME_Y4M_NO_SITING && letter == 0);
+    CHECK(header.range == V_FRAME_Y4M_LIMITED && is_lax == 0);
     CHECK(parse("YUV4MPEG2 H2 W3", &header, &letter) == V_FRAME_Y4M_OK);
     CHECK(header.width == 3 && header.height == 2 && header.format == V_FRAME_Y4M_420 && header.bit_depth == 8);
     CHECK(header.frame_rate.stated == 0 && header.frame_rate.numerator == 0 && header.frame_rate.denominator == 0);
     CHECK(header.interlacing == V_FRAME_Y4M_NOT_STATED && header.siting == V_FRAME_Y4M_CENTER);
     CHECK(v_frame_y4m_version() == V_FRAME_VERSION_NUMBER);
     read_lax_lines();
+    keep_extensions();
+    reject_extensions();
     static const struct {
         const char *line;
         uint32_t status;

@@ -1,5 +1,5 @@
-//! Names the version of the interface that programs ask for when they are started, as `tools/install` does: below 1.0 the first two
-//! numbers of the library's version, for a new minor version may change calls there, and then the first.
+//! Sets the soname of the shared library, as `tools/install` does. It has the first two numbers of the version below 1.0, because a new
+//! minor version may change calls there, and then the first number.
 
 fn main() {
     println!("cargo:rerun-if-changed=build.rs");

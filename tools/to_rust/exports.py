@@ -1,8 +1,8 @@
 """Exports: the functions that C calls. References become pointers, and slices become pointers and lengths.
 
-An export becomes an unsafe function. Its body begins by converting each pointer back to a reference or a slice; the rest
-is the body of the source. The conversions are in the hand-written file `foreign`. An export with a precondition or with
-another form of parameter is rejected.
+An export becomes an unsafe function. Its body begins by converting each pointer back to a reference or a slice, and returns a
+status if a pointer is null or misaligned; the rest is the body of the source. The conversions are in the hand-written file
+`foreign`. An export with a precondition or with another form of parameter is rejected.
 """
 
 import re
@@ -41,7 +41,7 @@ def rewrite_export(source, item):
         source.refuse(item.keyword, "an export with a precondition, which C cannot prove")
     if not item.is_public() or item.owner or item.generics or not item.result or source.words(*item.result) != RESULT:
         source.refuse(item.keyword, "unsupported form of an export")
-    taken, pointers = [], []
+    taken, pointers, status = [], [], f"crate::foreign::POINTER_OF_{source.crate.upper()}"
     for start, at, end in parameters_of(source, item):
         found, name = TYPE.fullmatch(source.words(at + 2, end)), source[at]
         if not found or start != at:
@@ -57,7 +57,7 @@ def rewrite_export(source, item):
             if f"{name}_length" in [source[k] for k in range(item.keyword, item.end)]:
                 source.refuse(start, "the name for the length of a slice is already in use")
         call += "_mut" if found["writes"] else ""
-        taken.append(f"let {name} = unsafe {{ crate::foreign::{call}({arguments}) }};")
+        taken.append(f"let Some({name}) = (unsafe {{ crate::foreign::{call}({arguments}) }}) else {{\n        return {status};\n    }};")
         pointers.append((at + 2, end, pointer))
     if taken:
         source.insert(item.body[0] + 1, "foreign-taken", "\n    ".join(taken), "\n    ")

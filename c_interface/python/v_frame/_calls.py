@@ -1,185 +1,195 @@
 """The calls, over planes of one sample size."""
 
+from __future__ import annotations
+
 import ctypes
-from typing import NamedTuple
+from collections.abc import Callable, Mapping
+from typing import TYPE_CHECKING, Any, Literal, NamedTuple, cast
 
 from . import _library as library
-from ._errors import LIMIT, KindError, SizesError, chosen, sizes, within
-from ._planes import Held, Plane, numpy
+from ._errors import LIMIT, KindError, SizesError, Whole, chosen, sizes, within
+from ._planes import Held, P, Plane, numpy, same_pictures, same_size
+
+if TYPE_CHECKING:
+    from ._planes import AnyPlane
+
+#: A chroma format.
+Format = Literal["mono", "420", "422", "444", "411"]
 
 
-def _same_size(a, b):
-    if a.size != b.size:
-        raise KindError("the planes have samples of different sizes")
-    return a.size
-
-
-def _new(like, width, height, size):
+def new_plane(like: P, width: int, height: int, size: int) -> P:
     """A plane of the kind of another one: an array, or a Plane over bytes of its own."""
     try:
         if isinstance(like, Plane):
-            return Plane(bytearray(width * height * size), width, height, sample_size=size)
-        return numpy.empty((height, width), dtype="uint8" if size == 1 else "uint16")
+            return cast(P, Plane(bytearray(width * height * size), width, height, sample_size=size))
+        return cast(P, numpy.empty((height, width), dtype="uint8" if size == 1 else "uint16"))
     except (MemoryError, OverflowError, ValueError) as error:
         raise SizesError(f"there is no memory for a plane of {width} by {height}") from error
 
 
-def depth_of(depth, size):
+def depth_of(depth: Whole | None, size: int, name: str = "depth") -> int:
     """A bit depth that samples of this size have: 8 for one byte where none is given, 8 to 16 for two."""
     if depth is None and size == 2:
-        raise KindError("the depth of samples of two bytes has to be given")
-    return 8 if depth is None else within(depth, "a bit depth", 8, 8 * size)
+        raise KindError(f"{name} has to be given for samples of two bytes, 8 to 16")
+    return 8 if depth is None else within(depth, name, 8, 8 * size)
 
 
-def _compared(exports, a, b, out):
-    with Held(a) as first, Held(b) as second:
-        call = exports[_same_size(first, second)]
-        library.answered(call(*first.told(), *second.told(), ctypes.byref(out)))
-        return first
+def compared(exports: Mapping[int, Callable[..., int]], a: Any, b: Any, *more: Any) -> None:
+    """Calls an export of two planes of one size, with more arguments."""
+    with Held(a, "a") as first, Held(b, "b") as second:
+        call = exports[same_size(first, second)]
+        same_pictures(first, second)
+        library.answered(call(*first.told(), *second.told(), *more))
 
 
-def _changed(exports, target, source, *more):
-    with Held(target, writes=True) as written, Held(source) as read:
-        call = exports[_same_size(written, read)]
+def changed(exports: Mapping[int, Callable[..., int]], target: Any, source: Any, *more: Any, any_size: bool = False) -> None:
+    """Calls an export that writes a target from a source of its size, with more arguments."""
+    with Held(target, "target", writes=True) as written, Held(source, "source") as read:
+        call = exports[same_size(written, read)]
+        if not any_size:
+            same_pictures(written, read)
         library.answered(call(*written.told(), *read.told_beside(written), *more))
 
 
-def sse(a, b) -> int:
+def sse(a: AnyPlane, b: AnyPlane) -> int:
     """The sum of the squares of the differences of two planes of one size, exactly.
 
     >>> sse(Plane(bytes([1, 2]), 2, 1), Plane(bytes([1, 5]), 2, 1))
     9
     """
     out = library.Sum()
-    _compared(library.SQUARED_ERRORS, a, b, out)
-    return out.high << 64 | out.low
+    compared(library.SQUARED_ERRORS, a, b, ctypes.byref(out))
+    return int(out.high) << 64 | int(out.low)
 
 
-def sad(a, b) -> int:
+def sad(a: AnyPlane, b: AnyPlane) -> int:
     """The sum of the absolute differences of two planes of one size, exactly.
 
     >>> sad(Plane(bytes([1, 2]), 2, 1), Plane(bytes([1, 5]), 2, 1))
     3
     """
     out = library.Sum()
-    _compared(library.ABSOLUTE_DIFFERENCES, a, b, out)
-    return out.high << 64 | out.low
+    compared(library.ABSOLUTE_DIFFERENCES, a, b, ctypes.byref(out))
+    return int(out.high) << 64 | int(out.low)
 
 
-def first_difference(a, b) -> tuple[int, int] | None:
-    """The column and the row of the first sample, row after row from the top, that differs; None where the planes are equal.
+def first_difference(a: AnyPlane, b: AnyPlane) -> tuple[int, int] | None:
+    """The column and the row of the first sample, row after row from the top, that differs in two planes of one size; None if the
+    planes are equal.
 
     >>> first_difference(Plane(bytes([1, 2, 3, 4]), 2, 2), Plane(bytes([1, 2, 9, 4]), 2, 2))
     (0, 1)
     """
     out = library.Place()
-    _compared(library.FIRST_DIFFERENCE, a, b, out)
-    return (out.x, out.y) if out.found else None
+    compared(library.FIRST_DIFFERENCE, a, b, ctypes.byref(out))
+    return (int(out.x), int(out.y)) if out.found else None
 
 
-def copy(source, target) -> None:
-    """Copies a plane into another one of its size.
+def copy(source: AnyPlane, target: AnyPlane) -> None:
+    """Copies the samples of a plane to another plane of its size.
 
     >>> target = Plane(bytearray(5), 2, 2, stride=3)
     >>> copy(Plane(bytes([1, 2, 3, 4]), 2, 2), target)
     >>> list(target.buffer)
     [1, 2, 0, 3, 4]
     """
-    _changed(library.COPY, target, source)
+    changed(library.COPY, target, source)
 
 
-def copy_clipped(source, target, x: int, y: int) -> None:
-    """Copies a plane into another one, with its first sample at column `x` of row `y`, either of which may be negative or past the
-    edge. What lies outside of the target is left out.
+def copy_clipped(source: AnyPlane, target: AnyPlane, x: Whole, y: Whole) -> None:
+    """Copies a plane to another plane of any size, with its first sample at column `x` of row `y`. Both may be negative or past the
+    edge. What is outside of the target is left out.
 
     >>> target = Plane(bytearray(6), 3, 2)
     >>> copy_clipped(Plane(bytes([1, 2, 3, 4]), 2, 2), target, -1, 1)
     >>> list(target.buffer)
     [0, 0, 0, 2, 0, 0]
     """
-    places = (within(it, "a place", -LIMIT // 2, LIMIT // 2 - 1) for it in (x, y))
-    _changed(library.COPY_CLIPPED, target, source, *places)
+    places = [within(it, name, -LIMIT // 2, LIMIT // 2 - 1) for it, name in ((x, "x"), (y, "y"))]
+    changed(library.COPY_CLIPPED, target, source, *places, any_size=True)
 
 
-def fill(target, sample: int) -> None:
-    """Sets each sample of a plane to one.
+def fill(target: AnyPlane, sample: Whole) -> None:
+    """Sets each sample of a plane to one value.
 
     >>> target = Plane(bytearray(3), 3, 1)
     >>> fill(target, 7)
     >>> list(target.buffer)
     [7, 7, 7]
     """
-    with Held(target, writes=True) as written:
-        sample = within(sample, "a sample", 0, 256 ** written.size - 1)
-        library.answered(library.FILL[written.size](*written.told(), sample))
+    with Held(target, "target", writes=True) as written:
+        number = within(sample, "sample", 0, 256 ** written.size - 1)
+        library.answered(library.FILL[written.size](*written.told(), number))
 
 
-def half(source):
-    """A new plane of half the size: each sample is the mean of a block of two by two, rounded to the nearest value and upwards
-    at a half. The source has an even width and height: else `downscale_to_edge`.
+def half(source: P) -> P:
+    """A new plane of half the size: each sample is the mean of a block of two by two, rounded to the nearest value, and upwards at a
+    half. The width and the height of the source are even; `downscale_to_edge` takes any.
 
     >>> list(half(Plane(bytes([1, 2, 3, 4]), 2, 2)).buffer)
     [3]
     """
-    with Held(source) as read:
+    with Held(source, "source") as read:
         (width, odd_column), (height, odd_row) = divmod(read.rows.width, 2), divmod(read.rows.height, 2)
         size = read.size
-    if odd_column or odd_row:
-        raise SizesError("the sizes do not belong together: half of an odd size")
-    target = _new(source, width, height, size)
-    _changed(library.DOWNSCALE, target, source)
+        if odd_column or odd_row:
+            raise SizesError(f"{read}, and has to have an even width and height: downscale_to_edge takes any")
+    target = new_plane(source, width, height, size)
+    changed(library.DOWNSCALE, target, source, any_size=True)
     return target
 
 
-def pad(plane, left: int, right: int, top: int, bottom: int):
-    """A new plane with a border of so many samples on each side, each the sample of the plane nearest to it.
+def pad(plane: P, left: Whole, right: Whole, top: Whole, bottom: Whole) -> P:
+    """A new plane with a border of the given numbers of samples. Each sample of the border is the sample of the plane nearest to
+    it.
 
     >>> list(pad(Plane(bytes([1, 2]), 2, 1), left=2, right=1, top=0, bottom=0).buffer)
     [1, 1, 1, 2, 2]
     """
-    left, right, top, bottom = sizes((left, right, top, bottom), SizesError)
-    with Held(plane) as read:
+    at_left, at_right, above, below = sizes(SizesError, left=left, right=right, top=top, bottom=bottom)
+    with Held(plane, "plane") as read:
         width, height, size = read.rows.width, read.rows.height, read.size
-    across, down = left + width + right, top + height + bottom
-    target = _new(plane, across, down, size)
-    if isinstance(plane, Plane):
-        inside = Plane(memoryview(target.buffer)[(across * top + left) * size:], width, height, across, size)
+    across, down = at_left + width + at_right, above + height + below
+    target = new_plane(plane, across, down, size)
+    inside: Any
+    if isinstance(target, Plane):
+        inside = Plane(memoryview(target.buffer)[(across * above + at_left) * size:], width, height, across, size)
     else:
-        inside = target[top:top + height, left:left + width]
+        inside = cast(Any, target)[above:above + height, at_left:at_left + width]
     copy(plane, inside)
-    layout = library.Bordered(width, height, left, right, top, bottom)
-    with Held(target, writes=True) as written:
+    layout = library.Bordered(width, height, at_left, at_right, above, below)
+    with Held(target, "target", writes=True) as written:
         library.answered(library.PAD[size](ctypes.byref(layout), written.address, written.length))
     return target
 
 
 #: The names of chroma formats, in the order of their numbers.
-FORMATS = ("mono", "420", "422", "444", "411")
+FORMATS: tuple[Format, ...] = ("mono", "420", "422", "444", "411")
 
 
 class Part(NamedTuple):
-    """A plane in the buffer of a frame: the index that it begins at, how many samples it has with its border, the index of its
-    first visible sample, and its size and stride."""
+    """A plane in the buffer of a frame: the index at which it begins, the number of its samples with its border, the index of its
+    first visible sample, its width, its height and its stride. All are in samples."""
 
     offset: int
-    count: int
+    count: int  # type: ignore[assignment]
     origin: int
     width: int
     height: int
     stride: int
 
 
-def lay_out(width: int, height: int, format: str = "420", padding: int = 0) -> list[Part]:
-    """Where the planes of a frame lie in one buffer, one after the other without gaps: luma, and chroma where there is some.
+def lay_out(width: Whole, height: Whole, format: Format = "420", padding: Whole = 0) -> list[Part]:
+    """Where the planes of a frame are in one buffer, one after the other without gaps: luma, and chroma if the format has some.
 
-    Chroma has as many columns and rows as cover luma, and the padding divided by the ratio and rounded up; the padding of luma
-    is that times the ratio.
+    Chroma has as many columns and rows as cover luma. Its padding is the given padding divided by the ratio of the format, rounded
+    up; the padding of luma is the padding of chroma times the ratio.
 
     >>> [(part.offset, part.width, part.height) for part in lay_out(5, 3, "420")]
     [(0, 5, 3), (15, 3, 2), (21, 3, 2)]
     """
-    number, found = chosen(format, FORMATS, "a format"), library.Parts()
-    request = library.Request(*sizes((width, height, padding)), number)
+    number, found = chosen(format, FORMATS, "format"), library.Parts()
+    request = library.Request(*sizes(width=width, height=height, padding=padding), number)
     library.answered(library.LAY_OUT(ctypes.byref(request), ctypes.byref(found)))
     parts = []
     for part in found.planes:

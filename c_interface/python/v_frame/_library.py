@@ -1,9 +1,13 @@
-"""The shared library: where it is, what it exports, and what its statuses say."""
+"""The shared library: where it is, what it exports, and what its statuses mean."""
+
+from __future__ import annotations
 
 import ctypes
 import ctypes.util
 import os
+from collections.abc import Callable
 from pathlib import Path
+from typing import Any
 
 from ._errors import NumberError, RowsError, SizesError, StatusError
 
@@ -56,8 +60,9 @@ class PairStatistics(ctypes.Structure):
     _fields_ = [(name, Sum) for name in ("first", "second", "first_squares", "second_squares", "products")]
 
 
-def opened(name, variable):
-    """The library that an environment variable names; or the one beside this module, that of its prefix or its wheel, or the loader's.
+def opened(name: str, variable: str) -> ctypes.CDLL:
+    """The library that an environment variable names, or else the one beside this module, the one of its prefix or its wheel, or the
+    one that the loader finds.
 
     A wheel has one library with all calls, as cargo builds it.
     """
@@ -69,10 +74,10 @@ def opened(name, variable):
         return ctypes.CDLL(found)
     except OSError as error:
         looked_for = named or f"{', '.join(places)}, and {file} where the loader looks"
-        raise ImportError(f"{file} cannot be loaded ({error}): looked for {looked_for}; install it, or name it by {variable}") from error
+        raise ImportError(f"{file} cannot be loaded ({error}): looked for {looked_for}; install it, or set {variable} to its path") from error
 
 
-def of_this_version(library, name):
+def of_this_version(library: ctypes.CDLL, name: str) -> ctypes.CDLL:
     """A library whose first two numbers of the version are those of this module."""
     version = export(library, f"{name}_version")()
     if version >> 8 != int.from_bytes(map(int, VERSION.split(".")), "big") >> 8:
@@ -81,25 +86,26 @@ def of_this_version(library, name):
     return library
 
 
-def export(library, name, *parameters):
-    """A call of a library, which answers a status."""
+def export(library: ctypes.CDLL, name: str, *parameters: Any) -> Callable[..., int]:
+    """A call of a library, which returns a status."""
     try:
         found = getattr(library, name)
     except AttributeError:
         raise ImportError(f"the library has no {name}: it is of another version than this module, {VERSION}") from None
     found.restype, found.argtypes = ctypes.c_uint32, list(parameters)
-    return found
+    call: Callable[..., int] = found
+    return call
 
 
 _library = of_this_version(opened("v_frame", "V_FRAME_LIBRARY"), "v_frame")
 _rows, _size, _data = ctypes.POINTER(Rows), ctypes.c_size_t, ctypes.c_void_p
 
 
-def _export(name, *more):
+def _export(name: str, *more: Any) -> Callable[..., int]:
     return export(_library, name, _rows, _data, _size, *more)
 
 
-def _both(name, *more):
+def _both(name: str, *more: Any) -> dict[int, Callable[..., int]]:
     return {size: _export(f"v_frame_{name}_{kind}", *more) for size, kind in ((1, "u8"), (2, "u16"))}
 
 
@@ -150,17 +156,18 @@ LAY_OUT = export(_library, "v_frame_lay_out", ctypes.POINTER(Request), ctypes.PO
 _ROWS = {1: "first", 2: "second", 6: "third", 7: "fourth", 9: "fifth"}
 
 
-def answered(status):
-    """Raises the exception of a status."""
+def answered(status: int) -> None:
+    """Raises the exception of a status. This module tests its arguments before a call, and its errors then name the parameter; so
+    only a few statuses are left."""
     if status in _ROWS:
-        raise RowsError(f"the {_ROWS[status]} rows do not fit their buffer")
+        raise RowsError(f"the rows of the {_ROWS[status]} plane do not fit their buffer")
     if status == 3:
-        raise SizesError("the sizes do not belong together")
+        raise SizesError("the sizes of the planes are not those that the call requires")
     if status == 4:
-        raise NumberError("there is no such format")
+        raise NumberError("the format is not one that the call takes")
     if status == 5:
-        raise NumberError("a number is none that the library knows: a bit depth, a ratio, a weight or one of a choice")
+        raise NumberError("a bit depth, a ratio, a weight or the number of a choice is out of its range")
     if status == 8:
-        raise SizesError("a side of the planes is below 8: no window of 8 by 8 samples has room")
+        raise SizesError("a side of the planes is below 8, so that no window of 8 by 8 samples fits")
     if status != 0:
-        raise StatusError(f"the library returned the status {status}, which this module does not know")
+        raise StatusError(f"the library has returned the status {status}, which this module does not know")

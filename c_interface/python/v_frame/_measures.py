@@ -1,57 +1,65 @@
 """How far planes and frames are apart, as numbers."""
 
+from __future__ import annotations
+
 import ctypes
 import math
-from typing import NamedTuple
+from typing import TYPE_CHECKING, Any, NamedTuple, Union
 
 from . import _library as library
-from ._calls import _same_size, depth_of, sse
-from ._errors import KindError, NumberError, SizesError, within
+from ._calls import compared, depth_of, sse
+from ._errors import KindError, NumberError, SizesError, Whole, shown, within
 from ._frames import Frame, plane_sizes
+from ._pictures import shape
 from ._planes import Held
+
+if TYPE_CHECKING:
+    from ._planes import AnyPlane
+
+    Measured = Union[AnyPlane, Frame[Any]]
 
 
 class Greatest(NamedTuple):
-    """The greatest difference of two planes, and the column and the row of the first place that has it."""
+    """The greatest difference of the samples of two planes, and the column and the row of the first place that has it."""
 
     difference: int
     x: int
     y: int
 
 
-def _are_frames(a, b):
+def _are_frames(a: Any, b: Any) -> bool:
     """Whether both are frames, of one format."""
     if not isinstance(a, Frame) and not isinstance(b, Frame):
         return False
     if not isinstance(a, Frame) or not isinstance(b, Frame):
-        raise KindError("a plane is not compared with a frame")
+        raise KindError(f"a is of type {type(a).__name__} and b of type {type(b).__name__}, and both have to be planes or both frames")
     if (a.format, a.depth) != (b.format, b.depth):
-        raise SizesError("the frames have different formats or bit depths")
+        raise SizesError(f"a is a frame of {a.format} with {a.depth} bits and b of {b.format} with {b.depth}, and they have to be the same")
     return True
 
 
-def _errors_of(a, b):
-    """The sum of the squared errors of two planes, or of all planes of two frames, and how many samples they have."""
+def _errors_of(a: Any, b: Any) -> tuple[int, int]:
+    """The sum of the squared errors of two planes, or of all planes of two frames, and the number of their samples."""
     if not _are_frames(a, b):
         total = sse(a, b)
-        with Held(a) as held:
-            return total, held.rows.width * held.rows.height
-    return tuple(map(sum, zip(*map(_errors_of, a, b))))
+        width, height, _ = shape(a, "a")
+        return total, width * height
+    found = [_errors_of(p, q) for p, q in zip(a, b)]
+    return sum(total for total, _ in found), sum(count for _, count in found)
 
 
-def _depth_of_either(a, depth):
-    """The depth that is given for planes, or that of a frame."""
+def _depth_of_either(a: Any, depth: Whole | None) -> int:
+    """The depth that is given for planes, or the depth of a frame."""
     if not isinstance(a, Frame):
-        with Held(a) as held:
-            return depth_of(depth, held.size)
+        return depth_of(depth, shape(a, "a")[2])
     if depth is not None and depth != a.depth:
-        raise NumberError("the frames have another bit depth")
+        raise NumberError(f"depth is {shown(depth)}, and the frames have {a.depth} bits")
     return a.depth
 
 
-def mse(a, b) -> float:
-    """The mean of the squares of the differences of two planes of one size; of two frames, of all samples of all planes, as ffmpeg
-    weighs them. The sum under it is exact and proved, the division is that of floating point.
+def mse(a: Measured, b: Measured) -> float:
+    """The mean of the squares of the differences of two planes of one size, or of all samples of all planes of two frames, which are
+    the weights of ffmpeg. The sum is exact, and its contract is proved. The division is one of floating-point numbers.
 
     >>> mse(Plane(bytes([1, 2]), 2, 1), Plane(bytes([1, 5]), 2, 1))
     4.5
@@ -60,11 +68,11 @@ def mse(a, b) -> float:
     return total / count
 
 
-def psnr(a, b, depth: int | None = None) -> float:
-    """The peak signal-to-noise ratio in decibels: infinite where the planes, or all planes of two frames, are equal.
+def psnr(a: Measured, b: Measured, depth: Whole | None = None) -> float:
+    """The peak signal-to-noise ratio of two planes of one size, or of two frames, in decibels. It is infinite if they are equal.
 
-    The depth in bits is 8 for samples of one byte, and has to be given for others, 8 to 16; frames have theirs. The sum under it
-    is exact and proved; the division and the logarithm are those of floating point.
+    The depth in bits is 8 for samples of one byte, and has to be given for others, 8 to 16. Frames have their own depth. The sum of
+    squares is exact, and its contract is proved. The division and the logarithm are those of floating-point numbers.
 
     >>> round(psnr(Plane(bytes([1, 2]), 2, 1), Plane(bytes([1, 5]), 2, 1)), 4)
     41.5987
@@ -75,53 +83,51 @@ def psnr(a, b, depth: int | None = None) -> float:
     return 10 * math.log10(peak * peak / (total / count)) if total else math.inf
 
 
-def _pair(export, a, b, *more):
-    """Calls an export of two planes."""
-    with Held(a) as first, Held(b) as second:
-        library.answered(export[_same_size(first, second)](*first.told(), *second.told(), *more))
+def ssim(a: Measured, b: Measured, depth: Whole | None = None) -> float:
+    """The structural similarity of two planes of one size, with the digits of ffmpeg's filter in C: the mean over windows of 8 by 8
+    samples at every fourth column and row. Of two frames it is the mean of their planes, weighted by their numbers of samples.
 
-
-def ssim(a, b, depth: int | None = None) -> float:
-    """The structural similarity of two planes of one size, digit for digit as ffmpeg's filter computes it in C: the mean over windows
-    of 8 by 8 samples at every fourth column and row. Of two frames, the mean of their planes, each weighed by its samples.
-
-    The depth is as for `psnr`. Where a side of a plane is below 8 there is no window: `SizesError`.
+    The depth is as for `psnr`. If the width or the height of a plane is below 8, there is no window, and the error is `SizesError`.
 
     >>> ssim(Plane(bytes(64), 8, 8), Plane(bytes(64), 8, 8))
     1.0
     """
     if _are_frames(a, b):
+        frame: Any = a
+        other: Any = b
         depth = _depth_of_either(a, depth)
-        counts = [plane_width * plane_height for plane_width, plane_height in plane_sizes(a.width, a.height, a.format)]
+        counts = [plane_width * plane_height for plane_width, plane_height in plane_sizes(frame.width, frame.height, frame.format)]
         similarity = 0.0
-        for p, q, count in zip(a, b, counts):
+        for p, q, count in zip(frame, other, counts):
             similarity += count / sum(counts) * ssim(p, q, depth)
         return similarity
     out = ctypes.c_double()
-    with Held(a) as held:
+    with Held(a, "a") as held:
         size = held.size
-    depth = depth_of(depth, size)
-    _pair(library.SSIM, a, b, *([depth] if size == 2 else []), ctypes.byref(out))
+        if min(held.rows.width, held.rows.height) < 8:
+            raise SizesError(f"{held}, and has to be at least 8 by 8, the size of a window")
+    bits = depth_of(depth, size)
+    compared(library.SSIM, a, b, *([bits] if size == 2 else []), ctypes.byref(out))
     return out.value
 
 
-def greatest_difference(a, b) -> Greatest:
+def greatest_difference(a: AnyPlane, b: AnyPlane) -> Greatest:
     """The greatest difference of the samples of two planes of one size, and the first place, row after row from the top, that has it.
 
     >>> greatest_difference(Plane(bytes([1, 2, 3, 4]), 2, 2), Plane(bytes([1, 2, 9, 4]), 2, 2))
     Greatest(difference=6, x=0, y=1)
     """
     out = library.Greatest()
-    _pair(library.GREATEST_DIFFERENCE, a, b, ctypes.byref(out))
+    compared(library.GREATEST_DIFFERENCE, a, b, ctypes.byref(out))
     return Greatest(out.difference, out.x, out.y)
 
 
-def count_above(a, b, threshold: int) -> int:
-    """At how many places the samples of two planes of one size are more than a threshold apart, which is 0 to 65,535.
+def count_above(a: AnyPlane, b: AnyPlane, threshold: Whole) -> int:
+    """The number of places at which the samples of two planes of one size differ by more than a threshold, which is 0 to 65535.
 
     >>> count_above(Plane(bytes([1, 2, 3]), 3, 1), Plane(bytes([1, 4, 9]), 3, 1), 2)
     1
     """
     out = ctypes.c_uint64()
-    _pair(library.COUNT_ABOVE, a, b, within(threshold, "a threshold", 0, (1 << 16) - 1), ctypes.byref(out))
+    compared(library.COUNT_ABOVE, a, b, within(threshold, "threshold", 0, (1 << 16) - 1), ctypes.byref(out))
     return out.value

@@ -1,11 +1,14 @@
 """Files that are written beside their target, and replace it when they are whole."""
 
+from __future__ import annotations
+
 import errno
 import os
 import re
 import stat
 import sys
 from io import RawIOBase, TextIOBase
+from typing import Any, BinaryIO
 
 from ._errors import StreamError
 
@@ -20,14 +23,19 @@ class Target:
     A device or a pipe is opened itself, and so is what is open already, by a name as `/dev/stdout`: it is written as it is.
     """
 
-    def __init__(self, path):
-        path = os.fsdecode(path)
+    stream: BinaryIO
+
+    def __init__(self, name: str | bytes | os.PathLike[str] | os.PathLike[bytes]) -> None:
+        path = os.fsdecode(name)
+        about: os.stat_result | None = None
+        missing: FileNotFoundError | None = None
         try:
             about = os.stat(path)
         except FileNotFoundError as error:
-            about, missing = None, error
-        self._target, self._partial = _led_to(path), None
-        if about is None and not os.path.basename(self._target):
+            missing = error
+        self._target = _led_to(path)
+        self._partial: str | None = None
+        if missing is not None and not os.path.basename(self._target):
             raise missing
         if _is_open_already(self._target):
             self.stream = _opened_again(self._target)
@@ -37,11 +45,11 @@ class Target:
             self._create_beside(about)
 
     @property
-    def is_beside(self):
+    def is_beside(self) -> bool:
         """Whether the file is a new one beside the target."""
         return self._partial is not None
 
-    def _create_beside(self, about):
+    def _create_beside(self, about: os.stat_result | None) -> None:
         """Opens a new file beside the target, with the permissions of what stands there, which has to be one that may be written."""
         if about is not None:
             os.close(os.open(self._target, os.O_WRONLY | _OWN))
@@ -56,8 +64,8 @@ class Target:
             os.unlink(self._partial)
             raise
 
-    def keep(self):
-        """Puts the file in the place of the target. What stood there is lost by that, so all is on the disk before."""
+    def keep(self) -> None:
+        """Replaces the target by the file, when all of it is on the disk."""
         try:
             with self.stream:
                 self.stream.flush()
@@ -69,7 +77,7 @@ class Target:
             self.discard()
             raise
 
-    def discard(self):
+    def discard(self) -> None:
         """Removes the file beside the target."""
         try:
             self.stream.close()
@@ -82,12 +90,12 @@ class Target:
                 pass
 
 
-def _is_open_already(name):
+def _is_open_already(name: str) -> bool:
     """Whether a name is one that the system has for what a process has open: who has it open goes on with that very file."""
     return name.startswith(("/proc/", "/dev/fd/"))
 
 
-def _led_to(name):
+def _led_to(name: str) -> str:
     """The name that a name leads to through symbolic links, whether there is a file or not."""
     for _ in range(MOST_LINKS + 1):
         folder, last = os.path.split(name)
@@ -102,7 +110,7 @@ def _led_to(name):
     raise OSError(errno.ELOOP, os.strerror(errno.ELOOP), name)
 
 
-def _opened_again(name):
+def _opened_again(name: str) -> BinaryIO:
     """What is open already: at the place where its descriptor stands, and behind what was printed to it."""
     own = re.fullmatch(rf"(?:/proc/{os.getpid()}(?:/task/\d+)?|/dev)/fd/(\d+)", name)
     if own is None:
@@ -116,7 +124,7 @@ def _opened_again(name):
     return os.fdopen(os.dup(int(own[1])), "wb")
 
 
-def _new_file(target, mode):
+def _new_file(target: str, mode: int) -> tuple[int, str]:
     """A new file beside a target: with the target's name and an ending, and a number where there is such a file already."""
     for number in range(MOST_NAMES):
         partial = f"{target}.partial{number or ''}"
@@ -127,14 +135,14 @@ def _new_file(target, mode):
     raise FileExistsError(errno.EEXIST, os.strerror(errno.EEXIST), partial)
 
 
-def writes_bytes(stream):
+def writes_bytes(stream: Any, fault: type[StreamError] = StreamError) -> Any:
     """A stream that writes bytes."""
     if getattr(stream, "closed", False) or isinstance(stream, TextIOBase) or not hasattr(stream, "write"):
-        raise StreamError("the stream is closed, or does not write bytes")
+        raise fault(f"the stream, of type {type(stream).__name__}, is closed or does not write bytes")
     return stream
 
 
-def write_all(stream, data):
+def write_all(stream: Any, data: bytes, fault: type[StreamError] = StreamError) -> None:
     """Writes all bytes, also to an unbuffered stream, which may take fewer at once."""
     rest = memoryview(data)
     while rest:
@@ -143,5 +151,5 @@ def write_all(stream, data):
         if taken is None and not isinstance(stream, RawIOBase):
             return
         if not isinstance(taken, int) or not 0 < taken <= len(rest):
-            raise StreamError("the stream took no bytes" if taken in (0, None) else "the stream took a number of bytes that is none")
+            raise fault("the stream has taken no bytes" if taken in (0, None) else f"the stream returned {taken!r} for {len(rest)} bytes")
         rest = rest[taken:]

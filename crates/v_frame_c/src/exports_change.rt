@@ -21,7 +21,7 @@ pub extern "C" fn v_frame_fill_u16(rows: &Rows, buffer: &mut [u16], pixel: u16) 
     change::fill(rows, buffer, pixel)
 }
 
-/// Copies the picture of the second rows into the first ones.
+/// Copies the picture of the source rows to the rows of the buffer, which have its size.
 #[unsafe(no_mangle)]
 pub extern "C" fn v_frame_copy_u8(
     rows: &Rows,
@@ -34,7 +34,7 @@ pub extern "C" fn v_frame_copy_u8(
     change::copy(rows, buffer, source_rows, source)
 }
 
-/// Copies the picture of the second rows into the first ones.
+/// Copies the picture of the source rows to the rows of the buffer, which have its size.
 #[unsafe(no_mangle)]
 pub extern "C" fn v_frame_copy_u16(
     rows: &Rows,
@@ -47,8 +47,8 @@ pub extern "C" fn v_frame_copy_u16(
     change::copy(rows, buffer, source_rows, source)
 }
 
-/// Makes the first rows show the picture of the second ones in half the size: each pixel is the mean of a block of two by two,
-/// rounded to the nearest value and upwards at a half.
+/// Writes the picture of the source rows in half its size: each pixel is the mean of a block of two by two, rounded to the
+/// nearest value, and upwards at a half.
 #[unsafe(no_mangle)]
 pub extern "C" fn v_frame_downscale_u8(
     rows: &Rows,
@@ -61,8 +61,8 @@ pub extern "C" fn v_frame_downscale_u8(
     change::downscale(rows, buffer, source_rows, source)
 }
 
-/// Makes the first rows show the picture of the second ones in half the size: each pixel is the mean of a block of two by two,
-/// rounded to the nearest value and upwards at a half.
+/// Writes the picture of the source rows in half its size: each pixel is the mean of a block of two by two, rounded to the
+/// nearest value, and upwards at a half.
 #[unsafe(no_mangle)]
 pub extern "C" fn v_frame_downscale_u16(
     rows: &Rows,
@@ -75,7 +75,7 @@ pub extern "C" fn v_frame_downscale_u16(
     change::downscale(rows, buffer, source_rows, source)
 }
 
-/// Makes each entry of the border the pixel nearest to it. What lies inside it stays, and so does all after it.
+/// Sets each entry of the border to the nearest pixel. The picture inside of it and all entries after it are unchanged.
 #[unsafe(no_mangle)]
 pub extern "C" fn v_frame_pad_u8(layout: &Bordered, buffer: &mut [u8]) -> u32
     ensures pads { PadsBorder layout.now buffer.old buffer.new result }
@@ -83,7 +83,7 @@ pub extern "C" fn v_frame_pad_u8(layout: &Bordered, buffer: &mut [u8]) -> u32
     change::pad(layout, buffer)
 }
 
-/// Makes each entry of the border the pixel nearest to it. What lies inside it stays, and so does all after it.
+/// Sets each entry of the border to the nearest pixel. The picture inside of it and all entries after it are unchanged.
 #[unsafe(no_mangle)]
 pub extern "C" fn v_frame_pad_u16(layout: &Bordered, buffer: &mut [u16]) -> u32
     ensures pads { PadsBorder layout.now buffer.old buffer.new result }
@@ -91,7 +91,7 @@ pub extern "C" fn v_frame_pad_u16(layout: &Bordered, buffer: &mut [u16]) -> u32
     change::pad(layout, buffer)
 }
 
-/// Decodes rows of bytes, the low byte of each pixel first, into rows of pixels. The rows of the source count bytes.
+/// Decodes rows of little-endian bytes to rows of pixels. The rows of the source count bytes.
 #[unsafe(no_mangle)]
 pub extern "C" fn v_frame_decode_u16(
     rows: &Rows,
@@ -104,7 +104,7 @@ pub extern "C" fn v_frame_decode_u16(
     change::decode(rows, buffer, source_rows, source)
 }
 
-/// Encodes rows of pixels into rows of bytes, the low byte of each pixel first. The rows of the buffer count bytes.
+/// Encodes rows of pixels as rows of little-endian bytes. The rows of the buffer count bytes.
 #[unsafe(no_mangle)]
 pub extern "C" fn v_frame_encode_u16(
     rows: &Rows,

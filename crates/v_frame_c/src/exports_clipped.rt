@@ -1,11 +1,11 @@
-//! The exports that copy pictures as far as they lie inside others.
+//! The exports that copy the parts of pictures that lie inside of others.
 ghost use Rattle.v_frame_slices.specs.Made.{IsCopiedTo};
 
 use v_frame_slices::clipped;
 use v_frame_slices::layout::Rows;
 
-/// Copies the picture of the second rows into the first ones, with its first pixel at column `x` of row `y`: what lies outside is
-/// left out.
+/// Copies the picture of the source rows to the rows of the buffer, with its first pixel at column `x` of row `y`. Pixels
+/// outside of the rows are left out.
 #[unsafe(no_mangle)]
 pub extern "C" fn v_frame_copy_clipped_u8(
     rows: &Rows,
@@ -20,8 +20,8 @@ pub extern "C" fn v_frame_copy_clipped_u8(
     clipped::copy_clipped(rows, buffer, source_rows, source, x, y)
 }
 
-/// Copies the picture of the second rows into the first ones, with its first pixel at column `x` of row `y`: what lies outside is
-/// left out.
+/// Copies the picture of the source rows to the rows of the buffer, with its first pixel at column `x` of row `y`. Pixels
+/// outside of the rows are left out.
 #[unsafe(no_mangle)]
 pub extern "C" fn v_frame_copy_clipped_u16(
     rows: &Rows,

@@ -1,11 +1,11 @@
-//! The exports that make colors of luma and chroma, and luma and chroma of colors.
+//! The exports that convert luma and chroma to colors, and colors to luma and chroma.
 ghost use Rattle.v_frame_slices.specs.ColorCalls.{AreColors, AreSamples};
 
 use v_frame_slices::colors::{self, ColorChoice};
 use v_frame_slices::layout::Rows;
 use v_frame_slices::samples;
 
-/// Makes the first rows the colors of three pictures of one size: Y', Cb and Cr of 8 bits become R'G'B' by a standard.
+/// Converts three pictures of one size, Y', Cb and Cr of 8 bits, to colors R'G'B' by a standard.
 #[unsafe(no_mangle)]
 pub extern "C" fn v_frame_yuv444_to_rgb_u8(
     rows: &Rows,
@@ -24,8 +24,7 @@ pub extern "C" fn v_frame_yuv444_to_rgb_u8(
     colors::to_rgb(rows, buffer, y_rows, y, u_rows, u, v_rows, v, choice)
 }
 
-/// Makes the second, the third and the fourth rows the luma and the chroma of the colors of the first ones: R'G'B' of 8 bits
-/// becomes Y', Cb and Cr by a standard.
+/// Converts the colors R'G'B' of 8 bits of the first rows to Y', Cb and Cr by a standard, in the second, third and fourth rows.
 #[unsafe(no_mangle)]
 pub extern "C" fn v_frame_rgb_to_yuv444_u8(
     rows: &Rows,

@@ -61,7 +61,7 @@ pub extern "C" fn v_frame_absolute_differences_u16(
     compare::absolute_differences(a_rows, a, b_rows, b, sum)
 }
 
-/// Finds the first pixel, row after row, that differs in two pictures of one size.
+/// Finds the first pixel, row after row from the top, that differs in two pictures of one size.
 #[unsafe(no_mangle)]
 pub extern "C" fn v_frame_first_difference_u8(
     a_rows: &Rows,
@@ -75,7 +75,7 @@ pub extern "C" fn v_frame_first_difference_u8(
     compare::first_difference(a_rows, a, b_rows, b, place)
 }
 
-/// Finds the first pixel, row after row, that differs in two pictures of one size.
+/// Finds the first pixel, row after row from the top, that differs in two pictures of one size.
 #[unsafe(no_mangle)]
 pub extern "C" fn v_frame_first_difference_u16(
     a_rows: &Rows,

@@ -5,7 +5,8 @@ ghost use Rattle.v_frame_slices.specs.Made.{IsBlended, IsBlendedByMask, IsDiffer
 use v_frame_slices::compose;
 use v_frame_slices::layout::Rows;
 
-/// Blends the picture of the second rows over that of the first ones: so many of 256 parts of each pixel are the second's.
+/// Blends the picture of the source rows over the picture of the buffer. The weight is the part of the source in each pixel, in
+/// 256ths.
 #[unsafe(no_mangle)]
 pub extern "C" fn v_frame_blend_u8(
     rows: &Rows,
@@ -19,7 +20,8 @@ pub extern "C" fn v_frame_blend_u8(
     compose::blend(rows, buffer, source_rows, source, weight)
 }
 
-/// Blends the picture of the second rows over that of the first ones: so many of 256 parts of each pixel are the second's.
+/// Blends the picture of the source rows over the picture of the buffer. The weight is the part of the source in each pixel, in
+/// 256ths.
 #[unsafe(no_mangle)]
 pub extern "C" fn v_frame_blend_u16(
     rows: &Rows,
@@ -33,7 +35,8 @@ pub extern "C" fn v_frame_blend_u16(
     compose::blend(rows, buffer, source_rows, source, weight)
 }
 
-/// Does the same where a third picture says of each pixel how many of 255 parts are the second's.
+/// Blends the picture of the source rows over the picture of the buffer by a mask, whose pixels are the parts of the source, in
+/// 255ths.
 #[unsafe(no_mangle)]
 pub extern "C" fn v_frame_blend_with_mask_u8(
     rows: &Rows,
@@ -49,7 +52,8 @@ pub extern "C" fn v_frame_blend_with_mask_u8(
     compose::blend_with_mask(rows, buffer, source_rows, source, mask_rows, mask)
 }
 
-/// Does the same where a third picture says of each pixel how many of 255 parts are the second's.
+/// Blends the picture of the source rows over the picture of the buffer by a mask, whose pixels are the parts of the source, in
+/// 255ths.
 #[unsafe(no_mangle)]
 pub extern "C" fn v_frame_blend_with_mask_u16(
     rows: &Rows,
@@ -65,7 +69,8 @@ pub extern "C" fn v_frame_blend_with_mask_u16(
     compose::blend_with_mask(rows, buffer, source_rows, source, mask_rows, mask)
 }
 
-/// Makes each pixel of the first rows how far it lies from that of the second, times a gain, and at most the largest value.
+/// Replaces each pixel of the buffer by its absolute difference from the pixel of the source, times a gain, but at most by the
+/// largest value of the bit depth.
 #[unsafe(no_mangle)]
 pub extern "C" fn v_frame_difference_u8(
     rows: &Rows,
@@ -80,7 +85,8 @@ pub extern "C" fn v_frame_difference_u8(
     compose::difference(rows, buffer, source_rows, source, gain, depth)
 }
 
-/// Makes each pixel of the first rows how far it lies from that of the second, times a gain, and at most the largest value.
+/// Replaces each pixel of the buffer by its absolute difference from the pixel of the source, times a gain, but at most by the
+/// largest value of the bit depth.
 #[unsafe(no_mangle)]
 pub extern "C" fn v_frame_difference_u16(
     rows: &Rows,

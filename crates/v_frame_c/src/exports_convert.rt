@@ -5,7 +5,7 @@ ghost use Rattle.v_frame_slices.specs.Made.{IsAtDepth, IsUpscaled};
 use v_frame_slices::convert;
 use v_frame_slices::layout::Rows;
 
-/// Makes the first rows show the picture of the second ones, whose values have bit depth `from`, in bit depth `to`.
+/// Converts the picture of the source rows from the bit depth `from` to the bit depth `to`.
 #[unsafe(no_mangle)]
 pub extern "C" fn v_frame_convert_depth_u8_u16(
     rows: &Rows,
@@ -21,7 +21,7 @@ pub extern "C" fn v_frame_convert_depth_u8_u16(
     convert::convert_depth(rows, buffer, source_rows, source, from, to)
 }
 
-/// Makes the first rows show the picture of the second ones, whose values have bit depth `from`, in bit depth `to`.
+/// Converts the picture of the source rows from the bit depth `from` to the bit depth `to`.
 #[unsafe(no_mangle)]
 pub extern "C" fn v_frame_convert_depth_u16_u8(
     rows: &Rows,
@@ -37,7 +37,7 @@ pub extern "C" fn v_frame_convert_depth_u16_u8(
     convert::convert_depth(rows, buffer, source_rows, source, from, to)
 }
 
-/// Makes the first rows show the picture of the second ones, whose values have bit depth `from`, in bit depth `to`.
+/// Converts the picture of the source rows from the bit depth `from` to the bit depth `to`.
 #[unsafe(no_mangle)]
 pub extern "C" fn v_frame_convert_depth_u16_u16(
     rows: &Rows,
@@ -53,7 +53,7 @@ pub extern "C" fn v_frame_convert_depth_u16_u16(
     convert::convert_depth(rows, buffer, source_rows, source, from, to)
 }
 
-/// Makes the first rows show the picture of the second ones, with each pixel `ratio_x` times across and `ratio_y` times down.
+/// Writes the picture of the source rows with each pixel repeated `ratio_x` times across and `ratio_y` times down.
 #[unsafe(no_mangle)]
 pub extern "C" fn v_frame_upscale_u8(
     rows: &Rows,
@@ -68,7 +68,7 @@ pub extern "C" fn v_frame_upscale_u8(
     convert::upscale(rows, buffer, source_rows, source, ratio_x, ratio_y)
 }
 
-/// Makes the first rows show the picture of the second ones, with each pixel `ratio_x` times across and `ratio_y` times down.
+/// Writes the picture of the source rows with each pixel repeated `ratio_x` times across and `ratio_y` times down.
 #[unsafe(no_mangle)]
 pub extern "C" fn v_frame_upscale_u16(
     rows: &Rows,

@@ -37,7 +37,7 @@ pub extern "C" fn v_frame_count_between_u16(
     counts::between(rows, buffer, least, greatest, count)
 }
 
-/// Makes entry `v` of `counts` how many pixels have the value `v`.
+/// Sets entry `v` of `counts` to the number of pixels with the value `v`.
 #[unsafe(no_mangle)]
 pub extern "C" fn v_frame_histogram_u8(rows: &Rows, buffer: &[u8], counts: &mut [u64]) -> u32
     ensures status { result ≡ status_of_sized (fits rows.now (length buffer.now)) (nat_eq (length counts.old) 256) }
@@ -47,7 +47,7 @@ pub extern "C" fn v_frame_histogram_u8(rows: &Rows, buffer: &[u8], counts: &mut 
     counts::histogram_of_bytes(rows, buffer, counts)
 }
 
-/// Makes entry `v` of `counts` how many pixels have the value `v`. A pixel of a value that has no entry is not counted.
+/// Sets entry `v` of `counts` to the number of pixels with the value `v`. A pixel whose value has no entry is not counted.
 #[unsafe(no_mangle)]
 pub extern "C" fn v_frame_histogram_u16(rows: &Rows, buffer: &[u16], counts: &mut [u64]) -> u32
     ensures status { result ≡ status_of_one (fits rows.now (length buffer.now)) }

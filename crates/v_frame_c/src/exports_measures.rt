@@ -48,7 +48,7 @@ pub extern "C" fn v_frame_ssim_u8(
     measures::ssim(a_rows, a, b_rows, b, 8, similarity)
 }
 
-/// Measures the structural similarity (SSIM) of two pictures of one size, at so many bits of a sample.
+/// Measures the structural similarity (SSIM) of two pictures of one size whose samples have a bit depth.
 #[unsafe(no_mangle)]
 pub extern "C" fn v_frame_ssim_u16(
     a_rows: &Rows,
@@ -92,7 +92,7 @@ pub extern "C" fn v_frame_greatest_difference_u16(
     measures::greatest_difference(a_rows, a, b_rows, b, found)
 }
 
-/// Counts the places at which the values of two pictures of one size are further apart than a threshold.
+/// Counts the places at which the values of two pictures of one size differ by more than a threshold.
 #[unsafe(no_mangle)]
 pub extern "C" fn v_frame_count_above_u8(
     a_rows: &Rows,
@@ -107,7 +107,7 @@ pub extern "C" fn v_frame_count_above_u8(
     measures::count_above(a_rows, a, b_rows, b, threshold, count)
 }
 
-/// Counts the places at which the values of two pictures of one size are further apart than a threshold.
+/// Counts the places at which the values of two pictures of one size differ by more than a threshold.
 #[unsafe(no_mangle)]
 pub extern "C" fn v_frame_count_above_u16(
     a_rows: &Rows,

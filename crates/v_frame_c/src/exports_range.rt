@@ -7,7 +7,7 @@ ghost use Rattle.v_frame_slices.specs.Made.{IsInRange};
 use v_frame_slices::layout::Rows;
 use v_frame_slices::range;
 
-/// Makes the first rows show the picture of the second ones, whose values of the limited range become those of the full one.
+/// Converts the picture of the source rows from the limited range to the full range.
 #[unsafe(no_mangle)]
 pub extern "C" fn v_frame_to_full_range_u8(
     rows: &Rows,
@@ -23,7 +23,7 @@ pub extern "C" fn v_frame_to_full_range_u8(
     range::to_range(rows, buffer, source_rows, source, true, component, depth)
 }
 
-/// Makes the first rows show the picture of the second ones, whose values of the limited range become those of the full one.
+/// Converts the picture of the source rows from the limited range to the full range.
 #[unsafe(no_mangle)]
 pub extern "C" fn v_frame_to_full_range_u16(
     rows: &Rows,
@@ -39,7 +39,7 @@ pub extern "C" fn v_frame_to_full_range_u16(
     range::to_range(rows, buffer, source_rows, source, true, component, depth)
 }
 
-/// Makes the first rows show the picture of the second ones, whose values of the full range become those of the limited one.
+/// Converts the picture of the source rows from the full range to the limited range.
 #[unsafe(no_mangle)]
 pub extern "C" fn v_frame_to_limited_range_u8(
     rows: &Rows,
@@ -55,7 +55,7 @@ pub extern "C" fn v_frame_to_limited_range_u8(
     range::to_range(rows, buffer, source_rows, source, false, component, depth)
 }
 
-/// Makes the first rows show the picture of the second ones, whose values of the full range become those of the limited one.
+/// Converts the picture of the source rows from the full range to the limited range.
 #[unsafe(no_mangle)]
 pub extern "C" fn v_frame_to_limited_range_u16(
     rows: &Rows,

@@ -1,10 +1,10 @@
-//! The exports for chroma whose samples take turns in one plane, as in NV12 and P010.
+//! The exports for chroma that is interleaved in one plane, as in NV12 and P010.
 ghost use Rattle.v_frame_slices.specs.ChromaByTurns.{AreDeinterleaved, IsInterleaved};
 
 use v_frame_slices::layout::Rows;
 use v_frame_slices::semi_planar;
 
-/// Makes the first rows show the pixels of the second and of the third ones by turns.
+/// Interleaves the pixels of the second and the third rows in the first rows.
 #[unsafe(no_mangle)]
 pub extern "C" fn v_frame_interleave_u8(
     rows: &Rows,
@@ -19,7 +19,7 @@ pub extern "C" fn v_frame_interleave_u8(
     semi_planar::interleave(rows, buffer, u_rows, u, v_rows, v)
 }
 
-/// Makes the first rows show the pixels of the second and of the third ones by turns.
+/// Interleaves the pixels of the second and the third rows in the first rows.
 #[unsafe(no_mangle)]
 pub extern "C" fn v_frame_interleave_u16(
     rows: &Rows,
@@ -34,7 +34,7 @@ pub extern "C" fn v_frame_interleave_u16(
     semi_planar::interleave(rows, buffer, u_rows, u, v_rows, v)
 }
 
-/// Makes the second and the third rows of the pixels of the first ones, which go to them by turns.
+/// Separates the interleaved pixels of the first rows into the second and the third rows.
 #[unsafe(no_mangle)]
 pub extern "C" fn v_frame_deinterleave_u8(
     rows: &Rows,
@@ -49,7 +49,7 @@ pub extern "C" fn v_frame_deinterleave_u8(
     semi_planar::deinterleave(rows, buffer, u_rows, u, v_rows, v)
 }
 
-/// Makes the second and the third rows of the pixels of the first ones, which go to them by turns.
+/// Separates the interleaved pixels of the first rows into the second and the third rows.
 #[unsafe(no_mangle)]
 pub extern "C" fn v_frame_deinterleave_u16(
     rows: &Rows,

@@ -6,8 +6,8 @@ ghost use Rattle.v_frame_convert.specs.declared.scale.Scale.TheVariants.{Half, S
 use v_frame_slices::layout::Rows;
 use v_frame_slices::{halves, resize};
 
-/// Makes the first rows show the picture of the second ones: each pixel is the mean of the area that it covers, rounded to the
-/// nearest value and upwards at a half.
+/// Resizes the picture of the source rows by a box filter: each pixel is the mean of the area that it covers, rounded to the
+/// nearest value, and upwards at a half.
 #[unsafe(no_mangle)]
 pub extern "C" fn v_frame_resize_area_u8(
     rows: &Rows,
@@ -20,8 +20,8 @@ pub extern "C" fn v_frame_resize_area_u8(
     resize::by_area(rows, buffer, source_rows, source)
 }
 
-/// Makes the first rows show the picture of the second ones: each pixel is the mean of the area that it covers, rounded to the
-/// nearest value and upwards at a half.
+/// Resizes the picture of the source rows by a box filter: each pixel is the mean of the area that it covers, rounded to the
+/// nearest value, and upwards at a half.
 #[unsafe(no_mangle)]
 pub extern "C" fn v_frame_resize_area_u16(
     rows: &Rows,
@@ -34,7 +34,8 @@ pub extern "C" fn v_frame_resize_area_u16(
     resize::by_area(rows, buffer, source_rows, source)
 }
 
-/// Makes the first rows show the picture of the second ones: each pixel is the one that holds its center.
+/// Resizes the picture of the source rows by the nearest neighbor: each pixel is the pixel of the source that contains its
+/// center.
 #[unsafe(no_mangle)]
 pub extern "C" fn v_frame_resize_nearest_u8(
     rows: &Rows,
@@ -47,7 +48,8 @@ pub extern "C" fn v_frame_resize_nearest_u8(
     resize::by_nearest(rows, buffer, source_rows, source)
 }
 
-/// Makes the first rows show the picture of the second ones: each pixel is the one that holds its center.
+/// Resizes the picture of the source rows by the nearest neighbor: each pixel is the pixel of the source that contains its
+/// center.
 #[unsafe(no_mangle)]
 pub extern "C" fn v_frame_resize_nearest_u16(
     rows: &Rows,
@@ -60,8 +62,8 @@ pub extern "C" fn v_frame_resize_nearest_u16(
     resize::by_nearest(rows, buffer, source_rows, source)
 }
 
-/// Makes the first rows show the picture of the second ones in half the size, rounded up. Past an edge the last column and the
-/// last row are repeated.
+/// Writes the picture of the source rows in half its size, rounded up. Past an edge the last column and the last row are
+/// repeated.
 #[unsafe(no_mangle)]
 pub extern "C" fn v_frame_downscale_to_edge_u8(
     rows: &Rows,
@@ -74,8 +76,8 @@ pub extern "C" fn v_frame_downscale_to_edge_u8(
     halves::downscale_to_edge(rows, buffer, source_rows, source)
 }
 
-/// Makes the first rows show the picture of the second ones in half the size, rounded up. Past an edge the last column and the
-/// last row are repeated.
+/// Writes the picture of the source rows in half its size, rounded up. Past an edge the last column and the last row are
+/// repeated.
 #[unsafe(no_mangle)]
 pub extern "C" fn v_frame_downscale_to_edge_u16(
     rows: &Rows,
@@ -88,8 +90,7 @@ pub extern "C" fn v_frame_downscale_to_edge_u16(
     halves::downscale_to_edge(rows, buffer, source_rows, source)
 }
 
-/// Makes the first rows show the picture of the second ones with half as many columns, rounded up. Past an edge the last column
-/// is repeated.
+/// Writes the picture of the source rows with half as many columns, rounded up. Past an edge the last column is repeated.
 #[unsafe(no_mangle)]
 pub extern "C" fn v_frame_halve_columns_u8(
     rows: &Rows,
@@ -102,8 +103,7 @@ pub extern "C" fn v_frame_halve_columns_u8(
     halves::halve_columns(rows, buffer, source_rows, source)
 }
 
-/// Makes the first rows show the picture of the second ones with half as many columns, rounded up. Past an edge the last column
-/// is repeated.
+/// Writes the picture of the source rows with half as many columns, rounded up. Past an edge the last column is repeated.
 #[unsafe(no_mangle)]
 pub extern "C" fn v_frame_halve_columns_u16(
     rows: &Rows,

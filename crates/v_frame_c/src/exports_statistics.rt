@@ -1,4 +1,4 @@
-//! The exports for numbers that pictures give.
+//! The exports for statistics of pictures.
 ghost use Rattle.v_frame.specs.Prelude.{one_byte, two_bytes};
 ghost use Rattle.v_frame_slices.specs.Found.{SumsPairs, SumsPixels};
 

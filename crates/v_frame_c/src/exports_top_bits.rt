@@ -1,11 +1,11 @@
-//! The exports for whole frames whose samples stand in the top bits of words, as in P010.
+//! The exports for whole frames whose samples are in the top bits of words, as in P010.
 ghost use Rattle.v_frame_slices.specs.TopBits.{AreInTopBits, AreOfTopBits};
 
 use v_frame_slices::layout::Rows;
 use v_frame_slices::top_bits;
 
-/// Makes the first rows luma, and the second ones chroma, of a frame of three planes of samples of so many bits, in the top bits of
-/// their words.
+/// Writes the luma and the interleaved chroma of a frame of three planes, whose samples have a bit depth, with the samples in
+/// the top bits of words. The first rows are luma, the second rows chroma.
 #[unsafe(no_mangle)]
 pub extern "C" fn v_frame_to_semi_planar_top_bits_u16(
     y_rows: &Rows,
@@ -40,7 +40,7 @@ pub extern "C" fn v_frame_to_semi_planar_top_bits_u16(
     )
 }
 
-/// Makes the first three rows the planes of a frame of luma and of chroma whose samples take turns, in the top bits of words.
+/// Writes the three planes of a frame of luma and interleaved chroma, whose samples are in the top bits of words.
 #[unsafe(no_mangle)]
 pub extern "C" fn v_frame_from_semi_planar_top_bits_u16(
     y_rows: &Rows,

@@ -4,8 +4,8 @@ ghost use Rattle.v_frame_slices.specs.Made.{IsTurned};
 use v_frame_slices::layout::Rows;
 use v_frame_slices::turn;
 
-/// Makes the first rows show the picture of the second ones, turned in the way that a number says: 0 upside down, 1 mirrored, 2 by
-/// 180 degrees, 3 transposed, 4 and 5 by 90 and 270 degrees clockwise.
+/// Writes the picture of the source rows turned in the way of a number: 0 upside down, 1 mirrored, 2 rotated by 180 degrees, 3
+/// transposed, 4 and 5 rotated by 90 and 270 degrees clockwise.
 #[unsafe(no_mangle)]
 pub extern "C" fn v_frame_turn_u8(
     rows: &Rows,
@@ -19,8 +19,8 @@ pub extern "C" fn v_frame_turn_u8(
     turn::turn(rows, buffer, source_rows, source, number)
 }
 
-/// Makes the first rows show the picture of the second ones, turned in the way that a number says: 0 upside down, 1 mirrored, 2 by
-/// 180 degrees, 3 transposed, 4 and 5 by 90 and 270 degrees clockwise.
+/// Writes the picture of the source rows turned in the way of a number: 0 upside down, 1 mirrored, 2 rotated by 180 degrees, 3
+/// transposed, 4 and 5 rotated by 90 and 270 degrees clockwise.
 #[unsafe(no_mangle)]
 pub extern "C" fn v_frame_turn_u16(
     rows: &Rows,

@@ -1,10 +1,11 @@
-//! The exports for whole frames whose chroma takes turns in one plane.
+//! The exports for whole frames with interleaved chroma.
 ghost use Rattle.v_frame_slices.specs.ChromaByTurns.{ArePlanesOf, IsSemiPlanarOf};
 
 use v_frame_slices::layout::Rows;
 use v_frame_slices::whole;
 
-/// Makes the first rows luma, and the second ones chroma, of a frame of three planes: those of luma, of U and of V.
+/// Writes the luma and the interleaved chroma of a frame of the three planes Y, U and V. The first rows are luma, the second
+/// rows chroma.
 #[unsafe(no_mangle)]
 pub extern "C" fn v_frame_to_semi_planar_u8(
     y_rows: &Rows,
@@ -37,7 +38,8 @@ pub extern "C" fn v_frame_to_semi_planar_u8(
     )
 }
 
-/// Makes the first rows luma, and the second ones chroma, of a frame of three planes: those of luma, of U and of V.
+/// Writes the luma and the interleaved chroma of a frame of the three planes Y, U and V. The first rows are luma, the second
+/// rows chroma.
 #[unsafe(no_mangle)]
 pub extern "C" fn v_frame_to_semi_planar_u16(
     y_rows: &Rows,
@@ -70,7 +72,7 @@ pub extern "C" fn v_frame_to_semi_planar_u16(
     )
 }
 
-/// Makes the first three rows the planes of a frame of luma and of chroma whose samples take turns.
+/// Writes the three planes of a frame of luma and interleaved chroma.
 #[unsafe(no_mangle)]
 pub extern "C" fn v_frame_from_semi_planar_u8(
     y_rows: &Rows,
@@ -103,7 +105,7 @@ pub extern "C" fn v_frame_from_semi_planar_u8(
     )
 }
 
-/// Makes the first three rows the planes of a frame of luma and of chroma whose samples take turns.
+/// Writes the three planes of a frame of luma and interleaved chroma.
 #[unsafe(no_mangle)]
 pub extern "C" fn v_frame_from_semi_planar_u16(
     y_rows: &Rows,

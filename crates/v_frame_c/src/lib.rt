@@ -1,8 +1,8 @@
-//! The calls of the library for C: what is proved of each is its contract, down to this boundary.
+//! The calls of the library for C. The contract of each call is proved, down to this boundary.
 //!
-//! Each export takes slices, which C gives as a pointer and a length, and the layout of the rows in each; it tests everything
-//! that it can, and answers a status. None asks for anything by a contract. The header `c_interface/include/v_frame.h` declares
-//! them all, and says what C still has to promise.
+//! Each export takes slices, which C passes as a pointer and a length, and the layout of the rows in each. It tests its
+//! arguments and returns a status. No export has a precondition. The header `c_interface/include/v_frame.h` declares the
+//! exports, and says what C promises.
 #![tactic(auto)]
 
 mod exports_change;

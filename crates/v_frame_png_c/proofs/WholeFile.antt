@@ -1,4 +1,4 @@
--- What was written to an empty file is all of it.
+-- The bytes that were written to an empty file are all of its bytes.
 use Rattle.std.proofs.Common.{ℕ, ◌≡◌, List, [], ◌++◌, length, take, take_all, arith}
 use Rattle.v_frame_png.specs.Prelude.{IsFile}
 use Rattle.v_frame_png.specs.declared.header.Header.{Header}

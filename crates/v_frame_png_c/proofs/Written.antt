@@ -1,4 +1,5 @@
--- What a call leaves where the picture is refused, where memory is, and where there is a file.
+-- What a call leaves if the picture is rejected, if a request for memory fails, and if there is a
+-- file.
 use Rattle.std.proofs.Common.{ℕ, ◌≡◌, ◌<◌, ◌⊎◌, inl, inr, List, refl, arith}
 use Rattle.v_frame_png.specs.Prelude.{IsFile}
 use Rattle.v_frame_png.specs.declared.header.Header.{Header}

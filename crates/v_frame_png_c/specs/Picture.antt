@@ -1,4 +1,4 @@
--- A picture as C describes it, and what is tested of it.
+-- A picture as C describes it, and the tests of it.
 use Rattle.std.specs.Prelude.{ℕ, ◌+◌, ◌-◌, ◌*◌, ◌^◌, ◌==◌, Bool, true, false, ◌&&◌, if◌then◌else◌, List, nat_le, nat_lt}
 use Rattle.v_frame.specs.Prelude.{Table, strided_rows}
 use Rattle.v_frame_png.specs.declared.compression.Compression.{Compression}
@@ -22,7 +22,7 @@ samples_of_words color = if color == 0 then Gray16 else Rgb16
 abbrev pub compression_by : ℕ → Compression
 compression_by number = if number == 0 then Stored else Fixed
 
--- the numbers stand for a color and a compression
+-- the numbers are those of a color and of a compression
 abbrev pub is_known : Picture → Bool
 is_known p = nat_lt p.color 2 && nat_lt p.compression 2
 
@@ -31,7 +31,7 @@ abbrev pub is_size : Picture → Bool
 is_size p =
     nat_lt 0 p.width && (nat_lt p.width (2 ^ 31) && (nat_lt 0 p.height && nat_lt p.height (2 ^ 31)))
 
--- rows don't overlap, and end within so many samples
+-- the rows do not overlap, and end within the given number of samples
 abbrev pub fits_in : ℕ → ℕ → ℕ → ℕ → Bool
 fits_in width height stride count =
     nat_lt 0 width && (nat_lt 0 height && (nat_le width stride
@@ -48,7 +48,7 @@ abbrev pub header_by : Samples → Picture → Header
 header_by samples p =
     record { width = p.width; height = p.height; samples = samples; color_space = Unnamed }
 
--- the first that fails of what is tested, or 0
+-- the status of the first test that fails, or 0
 abbrev pub first_fault : Bool → Bool → Bool → ℕ
 first_fault false size rows = 1
 first_fault true false rows = 2

@@ -1,4 +1,4 @@
--- What an export answers beside the first that fails of what it tests.
+-- The statuses of an export other than those of the tests of the picture.
 use Rattle.std.specs.Prelude.{ℕ}
 
 abbrev pub out_of_memory : ℕ

@@ -4,8 +4,7 @@ use Rattle.v_frame_png.specs.Prelude.{IsFile}
 use Rattle.v_frame_png.specs.declared.header.Header.{Header}
 use Rattle.v_frame_png_c.specs.Status.{out_of_memory, short_buffer}
 
--- these bytes stand at the front of a buffer, and all after them is as before; or they are more
--- than it has
+-- the bytes are at the front of a buffer, whose rest is unchanged; or the buffer is shorter
 pub record IsPutInFront (bytes old new : List ℕ) (needed status : ℕ) : Type 0 where
   pub answer : (status ≡ 0) ⊎ (status ≡ short_buffer)
   pub count : needed ≡ length bytes

@@ -1,4 +1,4 @@
-//! What C calls.
+//! The calls of the library for C.
 ghost use Rattle.std.specs.Prelude.{length, map};
 ghost use Rattle.v_frame_png.specs.Prelude.{big_endian};
 ghost use Rattle.v_frame_png_c.specs.Picture.{header_by, rows_of, samples_of_bytes, samples_of_words, status_of};
@@ -9,8 +9,8 @@ use crate::picture::Picture;
 use crate::status::{NUMBER, OUT_OF_MEMORY, ROWS, SIZE};
 use std::alloc::Global;
 
-/// Writes a picture of samples of 8 bits as a PNG to the front of a buffer, and says how many bytes it has. Where the buffer is
-/// shorter, it says so, and writes nothing.
+/// Writes a picture of 8-bit samples as a PNG file to the front of a buffer. `needed` becomes the number of its bytes. If the
+/// buffer is shorter, nothing is written to it.
 #[tactic(auto, using(crate::proofs::Written::refused_for, crate::proofs::Written::without_memory))]
 #[unsafe(no_mangle)]
 pub extern "C" fn v_frame_png_write_u8(
@@ -40,8 +40,8 @@ pub extern "C" fn v_frame_png_write_u8(
     put_in_front(file.as_slice(), buffer, needed)
 }
 
-/// Writes a picture of samples of 16 bits as a PNG to the front of a buffer, and says how many bytes it has. Where the buffer is
-/// shorter, it says so, and writes nothing.
+/// Writes a picture of 16-bit samples as a PNG file to the front of a buffer. `needed` becomes the number of its bytes. If the
+/// buffer is shorter, nothing is written to it.
 #[tactic(auto, using(crate::proofs::Written::refused_for, crate::proofs::Written::without_memory))]
 #[unsafe(no_mangle)]
 pub extern "C" fn v_frame_png_write_u16(

@@ -1,4 +1,4 @@
-//! Pictures as the bytes of files, and these in a buffer of C's.
+//! Pictures as the bytes of files, and the bytes in a buffer of C.
 ghost use Rattle.std.specs.Prelude.{map, IfOk};
 ghost use Rattle.v_frame_png.specs.Prelude.{big_endian, IsFile};
 ghost use Rattle.v_frame_png_c.specs.Written.{IsPutInFront};
@@ -37,7 +37,8 @@ pub fn file_of_words(
     Ok(png.into_inner().into_bytes())
 }
 
-/// Puts a file into the front of a buffer, and says how many bytes it has. Where the buffer is shorter nothing is put.
+/// Copies a file to the front of a buffer, and sets `needed` to the number of its bytes. If the buffer is shorter, nothing is
+/// copied.
 pub fn put_in_front(file: &[u8], buffer: &mut [u8], needed: &mut usize) -> u32
     ensures put { IsPutInFront file.now buffer.old buffer.new needed.new result }
 {

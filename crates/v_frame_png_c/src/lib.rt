@@ -1,7 +1,7 @@
-//! Pictures that C holds in memory, written as PNG into memory of its own.
+//! Pictures in the memory of C, written as PNG files in the memory of C.
 //!
-//! It takes memory while it works, which C provides by `malloc`, so it is a library of its own beside `v_frame_c`. The header
-//! `c_interface/include/v_frame_png.h` declares what it exports.
+//! The calls take memory by `malloc` while they run, and are therefore in another library than those of `v_frame_c`. The header
+//! `c_interface/include/v_frame_png.h` declares the exports.
 #![tactic(auto)]
 
 mod exports;

@@ -4,7 +4,7 @@ ghost use Rattle.std.specs.Prelude.{◌≡◌, []};
 use std::alloc::Global;
 use std::io;
 
-/// The bytes of a file so far. A write fails where there is no memory for more.
+/// The bytes of a file so far. A write fails if a request for memory fails.
 #[derive(Drop)]
 pub struct Memory {
     bytes: Vec<u8>,

@@ -1,4 +1,4 @@
-//! A picture in numbers. Any bytes in it are a value.
+//! A picture in numbers. Any bytes in the struct are a valid value.
 ghost use Rattle.std.specs.Prelude.{◌≡◌, ◌<◌, ◌≤◌, ◌^◌, IsTrue, SomeIff, length};
 ghost use Rattle.v_frame.specs.Prelude.{strided_rows};
 ghost use Rattle.v_frame_png_c.specs.Picture.{compression_by, entries_by, fits, fits_in, header_by, is_known, is_size, rows_of, samples_of_bytes, samples_of_words};
@@ -6,11 +6,11 @@ ghost use Rattle.v_frame_png_c.specs.Picture.{compression_by, entries_by, fits, 
 use v_frame::plane::RowsRef;
 use v_frame_png::{ColorSpace, Compression, Header, Samples};
 
-/// A width and a height above the largest of a PNG.
+/// The least width and height that PNG does not allow.
 const LIMIT: usize = 0x8000_0000;
 
-/// A picture: its size in pixels, the samples from one row to the next, and numbers for its color and for how its data is
-/// compressed.
+/// A picture: its size in pixels, the number of samples from the beginning of one row to the next, and the numbers of its color
+/// and its compression.
 #[repr(C)]
 pub struct Picture {
     pub width: usize,
@@ -21,7 +21,7 @@ pub struct Picture {
 }
 
 impl Picture {
-    /// Returns whether the numbers stand for a color and a compression.
+    /// Returns whether the numbers are those of a color and of a compression.
     pub fn is_known(&self) -> bool
         ensures { result ≡ is_known self.now }
     {
@@ -81,7 +81,7 @@ impl Picture {
         }
     }
 
-    /// Returns the rows of samples, where they fit.
+    /// Returns the rows of samples, or `None` if they do not fit.
     pub fn rows<'a, T>(&self, samples: &'a [T]) -> Option<RowsRef<'a, T>>
         requires { self.now.width < 2 ^ 31 }
         ensures { SomeIff result (IsTrue (fits self.now (length samples.now))) (rows_of self.now samples.now) }
@@ -103,7 +103,7 @@ impl Picture {
     }
 }
 
-/// Returns rows of samples, where they fit.
+/// Returns rows of samples, or `None` if they do not fit.
 fn rows_in<T>(samples: &[T], width: usize, height: usize, stride: usize) -> Option<RowsRef<'_, T>>
     ensures { SomeIff result (IsTrue (fits_in width height stride (length samples.now)))
         (strided_rows width height stride samples.now) }

@@ -1,18 +1,19 @@
-//! What an export answers.
+//! The statuses that exports return.
 
-/// All went as asked.
+/// The call has succeeded.
 pub const OK: u32 = 0;
 
-/// A number is none that stands for a color or a compression.
+/// The color or the compression is not a number of its enum.
 pub const NUMBER: u32 = 1;
 
 /// The width or the height is 0 or above 2^31 - 1.
 pub const SIZE: u32 = 2;
 
-/// The rows don't fit the samples: the stride is below the samples of a row, or the last row ends past them.
+/// The rows do not fit the samples: the stride is below the number of samples of a row, or the last row ends past the end of
+/// the samples.
 pub const ROWS: u32 = 3;
 
-/// A request for memory was refused.
+/// A request for memory failed.
 pub const OUT_OF_MEMORY: u32 = 4;
 
 /// The buffer is shorter than the file.

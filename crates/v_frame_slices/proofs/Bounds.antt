@@ -1,4 +1,4 @@
--- What fits has no border that can't be counted.
+-- A picture that fits has a border that can be counted.
 use Rattle.std.proofs.Common.{ℕ, ◌*◌, ◌^◌, ◌<◌, ◌≤◌, IsTrue, arith}
 use Rattle.std.proofs.Math.Nat.{le-mul_of_pos_right}
 use Rattle.std.proofs.lemmas.Bool.Decides.{nat_tests}

@@ -1,4 +1,5 @@
--- What is done to each pixel of two pictures is done to each of them by turns.
+-- A change of each pixel of two pictures is the same change of the pixels of the interleaved
+-- picture.
 use Rattle.std.proofs.Common.{◌≡◌, List, [], ◌∷◌, refl, ◌∙◌, ap}
 use Rattle.v_frame.specs.Prelude.{Table}
 use Rattle.v_frame_ops.specs.Prelude.{combined, mapped}

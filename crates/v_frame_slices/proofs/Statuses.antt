@@ -1,4 +1,4 @@
--- What is answered of five buffers where the fifth fails, or the sizes do.
+-- The status of five buffers if the fifth fails, or the sizes do.
 use Rattle.std.proofs.Common.{◌≡◌, Bool, true, false, refl}
 use Rattle.v_frame_slices.specs.Status.{status_of_five, status_of_format, status_of_number}
 

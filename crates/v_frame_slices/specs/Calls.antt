@@ -1,23 +1,24 @@
--- What calls promise whatever they do: their status, what holds where that is 0, and what stays.
+-- What each call promises: its status, what holds if the status is 0, and what is unchanged.
 use Rattle.std.specs.Prelude.{ℕ, ◌≡◌, ◌≢◌, Bool, List, length}
 use Rattle.v_frame.specs.Prelude.{KeepsRest, Table}
 use Rattle.v_frame_slices.specs.Layout.{fits, picture}
 use Rattle.v_frame_slices.specs.Status.{same_size, status_of_number, status_of_two}
 use Rattle.v_frame_slices.specs.declared.layout.Rows.{Rows}
 
--- beside its rows a buffer stays, and all of it where the call is refused
+-- the entries of a buffer outside of its rows are unchanged, and all of them if the call fails
 pub record Keeps {T : Type 0} (rows : Rows) (old new : List T) (status : ℕ) : Type 0 where
   pub rest : KeepsRest rows.width rows.height rows.stride old new
   pub refused : status ≢ 0 → new ≡ old
 
--- the status is this one; where it is 0 what was written means this, and otherwise it is as before
+-- the status is the given one; if it is 0, the result has the given meaning, and otherwise it is
+-- unchanged
 pub record Answers {A : Type 0} (wanted : ℕ) (meaning : Type 0) (old new : A)
     (status : ℕ) : Type 0 where
   pub answer : status ≡ wanted
   pub found : status ≡ 0 → meaning
   pub refused : status ≢ 0 → new ≡ old
 
--- the same of a buffer, of which all beside the rows stays
+-- the same for a buffer, whose entries outside of the rows are unchanged
 pub record Writes {T : Type 0} (wanted : ℕ) (meaning : Type 0) (rows : Rows) (old new : List T)
     (status : ℕ) : Type 0 where
   pub answer : status ≡ wanted
@@ -30,8 +31,8 @@ abbrev pub status_of_pair : {T : Type 0} → Rows → Rows → List T → List T
 status_of_pair a_rows b_rows a b =
     status_of_two (fits a_rows (length a)) (fits b_rows (length b)) (same_size a_rows b_rows)
 
--- rows that are made of others: whether numbers stand for a choice, whether the rows of both
--- buffers fit, and whether their sizes belong together
+-- rows that are made from others: whether the numbers are those of choices, whether the rows of
+-- both buffers fit, and whether their sizes are those that the call requires
 module _ {S T : Type 0} (rows source_rows : Rows) (source : List S) (old new : List T)
     (status : ℕ) where
   abbrev pub Makes : Bool → Bool → Type 0 → Type 0
@@ -40,6 +41,6 @@ module _ {S T : Type 0} (rows source_rows : Rows) (source : List S) (old new : L
       (fits source_rows (length source)) sizes))
       meaning rows old new status
 
-  -- made so that they show this
+  -- the rows show the given picture
   abbrev pub Shows : Bool → Bool → Table T → Type 0
   Shows known sizes table = Makes known sizes (picture rows new ≡ table)

@@ -1,4 +1,4 @@
--- Colors made of luma and chroma, and luma and chroma of colors.
+-- Conversions of luma and chroma to colors, and of colors to luma and chroma.
 use Rattle.std.specs.Prelude.{ℕ, ◌≡◌, ◌&&◌, List, length}
 use Rattle.v_frame_slices.specs.Calls.{Keeps, Writes}
 use Rattle.v_frame_slices.specs.ColorChoice.{bytes_by, color_by, is_choice, matrix_by, size_by, yuv_matrix_by}

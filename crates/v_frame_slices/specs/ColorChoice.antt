@@ -1,4 +1,4 @@
--- Which colors C asks for: a standard, a range and an order of bytes, as numbers.
+-- A kind of colors as C states it: the numbers of a standard, of a range and of an order of bytes.
 use Rattle.std.specs.Prelude.{ℕ, ◌==◌, Bool, ◌&&◌, if◌then◌else◌, List, [], ◌∷◌, nat_lt, slice_index}
 use Rattle.v_frame_rgb.specs.Prelude.{Color, ColorRange, Standard, RgbMatrix, YuvMatrix}
 use Rattle.v_frame_rgb.specs.Prelude.{rgb_matrix_of, yuv_matrix_of}

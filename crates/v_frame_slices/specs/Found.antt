@@ -1,4 +1,4 @@
--- What calls find in a picture, and in two of one size.
+-- The results of calls on a picture, and on two pictures of one size.
 use Rattle.std.specs.Prelude.{ℕ, ◌≡◌, ◌≢◌, ◌↔◌, List, length, nat_lt}
 use Rattle.std.specs.Float.Ieee.{Float}
 use Rattle.std.specs.Int.{abs_diff}
@@ -20,7 +20,7 @@ use Rattle.v_frame_measures.specs.Prelude.{mean_error, peak_of, ssim_of}
 use Rattle.v_frame_ops.specs.Prelude.{IsFirstDifference}
 use Rattle.v_frame_statistics.specs.Prelude.{passing_pairs}
 
--- the first place, row after row, that differs, or none where the pictures are the same
+-- the first place, row after row, that differs, or no place if the pictures are the same
 pub record IsFirstPlace {T : Type 0} (a b : Table T) (place : Place) : Type 0 where
   pub none : (place ≡ nowhere) ↔ (a ≡ b)
   pub found : place ≢ nowhere → place.found ≡ 1
@@ -59,7 +59,7 @@ module _ {T : Type 0} (a_rows b_rows : Rows) (a b : List T) where
     FindsGreatest old new status = Compares old new status
         (IsGreatest form.value (picture a_rows a) (picture b_rows b) new)
 
-    -- those further apart than a threshold
+    -- the pairs that differ by more than a threshold
     abbrev pub CountsAbove : ℕ → ℕ → ℕ → ℕ → Type 0
     CountsAbove threshold old new status =
         Compares old new status
@@ -70,7 +70,7 @@ module _ {T : Type 0} (a_rows b_rows : Rows) (a b : List T) where
     MeasuresError old new status = Compares old new status
         (new ≡ mean_error form.value (picture a_rows a) (picture b_rows b))
 
-    -- pixels of so many bytes have values of a bit depth, and a window has room
+    -- pixels of the given number of bytes can have values of the bit depth, and a window fits
     abbrev pub MeasuresSimilarity : ℕ → ℕ → Float → Float → ℕ → Type 0
     MeasuresSimilarity bytes depth old new status =
         Answers (status_of_number (is_depth bytes depth)

@@ -1,5 +1,6 @@
--- The planes of a frame in one buffer, one after the other: chroma covers luma, whether its size
--- divides or not, and the border of luma is as wide as asked for, or wider until it divides.
+-- The planes of a frame in one buffer, one after the other. Chroma covers luma, whether the ratio
+-- divides the size or not. The border of luma is as wide as the request, or wider until the ratio
+-- divides it.
 use Rattle.std.specs.Prelude.{ℕ, ◌+◌, ◌*◌, Bool, ◌&&◌, if◌then◌else◌, Option, Some, None}
 use Rattle.std.specs.Int.{div_ceil}
 use Rattle.v_frame.specs.Prelude.{ChromaSubsampling, alloc_size_of, ratio_of, usize_max}
@@ -37,7 +38,7 @@ chroma_in r ratio =
 abbrev pub size_of : Bordered → ℕ
 size_of b = alloc_size_of (geometry_in b)
 
--- a plane that begins at an index of the buffer, and none
+-- a plane that begins at an index of the buffer, and a plane that is missing
 abbrev pub part_at : ℕ → Bordered → PlanePart
 part_at offset b = record { offset = offset; count = size_of b; layout = b }
 
@@ -73,7 +74,7 @@ fits_by r None = is_bordered (luma_in r (1, 1)) usize_max
 fits_by r (Some ratio) =
     is_bordered (luma_in r ratio) usize_max && is_bordered (chroma_in r ratio) usize_max
 
--- 4 where there is no such format, 1 where a plane does not fit
+-- 4 if there is no such format, 1 if a plane does not fit
 abbrev pub status_by : FrameRequest → Option ChromaSubsampling → ℕ
 status_by r None = 4
 status_by r (Some format) = if fits_by r (ratio_of format) then 0 else 1

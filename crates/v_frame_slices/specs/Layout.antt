@@ -6,7 +6,7 @@ use Rattle.v_frame_slices.specs.declared.layout.Place.{Place}
 use Rattle.v_frame_slices.specs.declared.layout.Rows.{Rows}
 use Rattle.v_frame_slices.specs.declared.layout.Sum.{Sum}
 
--- whether rows aren't empty, don't overlap and end within so many entries
+-- whether rows are not empty, do not overlap, and end within the given number of entries
 abbrev pub fits : Rows → ℕ → Bool
 fits rows entries =
     nat_lt 0 rows.width && (nat_lt 0 rows.height && (nat_le rows.width rows.stride
@@ -20,7 +20,7 @@ picture rows buffer = strided_rows rows.width rows.height rows.stride buffer
 abbrev pub number_of : Sum → ℕ
 number_of sum = sum.low + 2 ^ 64 * sum.high
 
--- the place that is none
+-- the result for no place
 abbrev pub nowhere : Place
 nowhere = record { x = 0; y = 0; found = 0 }
 
@@ -28,8 +28,8 @@ nowhere = record { x = 0; y = 0; found = 0 }
 abbrev pub geometry_in : Bordered → Geometry
 geometry_in b = geometry_of b.width b.height b.pad_left b.pad_right b.pad_top b.pad_bottom 1 1
 
--- whether there is a picture, and it ends with its border within so many entries, and within half
--- of what can be addressed
+-- whether the picture is not empty, and ends with its border within the given number of entries and
+-- within half of the address space
 abbrev pub is_bordered : Bordered → ℕ → Bool
 is_bordered b entries =
     nat_lt 0 b.width && (nat_lt 0 b.height && (nat_le (2 * alloc_size_of (geometry_in b)) isize_max

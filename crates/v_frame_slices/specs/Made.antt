@@ -1,4 +1,4 @@
--- Pictures that calls make of others, or in place, and their borders.
+-- Pictures that calls make from others, or change in place, and their borders.
 use Rattle.std.specs.Prelude.{ℕ, ℤ, ◌≡◌, ◌+◌, ◌*◌, ◌<◌, Bool, true, ◌&&◌, ◌≢◌, List, drop, length, map, nat_le, nat_lt, replicate, slice_get, take, Some}
 use Rattle.v_frame.specs.Prelude.{alloc_size_of, bytes_of_pixels, halved, pixel_at, raster, table_of, two_bytes, PixelForm, Table}
 use Rattle.v_frame_slices.specs.Calls.{Makes, Shows, Writes}
@@ -71,13 +71,13 @@ module _ {T : Type 0} (rows source_rows : Rows) (source old new : List T) (statu
         → slice_get (picture source_rows source) (2 * y + 1) ≡ Some bottom
         → slice_get (picture rows new) y ≡ Some (halved form top bottom))
 
-    -- of so many columns and rows one, by means
+    -- the mean of a number of columns and rows
     abbrev pub IsScaled : ℕ → ℕ → Scale → Scale → Type 0
     IsScaled ratio_x ratio_y across down =
         shows true (subsampled_size ratio_x ratio_y source_rows rows)
         (scaled form form.pixel_of across down rows.width rows.height (picture source_rows source))
 
-    -- of 256 parts so many are the source's
+    -- the weight of the source, in 256ths
     abbrev pub IsBlended : ℕ → Type 0
     IsBlended weight =
         shows (nat_le weight 256) (same_size rows source_rows)
@@ -98,7 +98,7 @@ module _ {T : Type 0} (rows source_rows : Rows) (source old new : List T) (statu
           (converted (converted (pixel_by form (change_by full (component_by component) depth)))
           (picture source_rows source))
 
-    -- of 255 parts so many as a mask says are the source's
+    -- the weight of the source, in 255ths, which a mask states
     abbrev pub IsBlendedByMask : Rows → List ℕ → Type 0
     IsBlendedByMask mask_rows mask =
         Writes (status_of_three (fits rows (length old)) (fits source_rows (length source))
@@ -111,7 +111,7 @@ module _ {T : Type 0} (rows source_rows : Rows) (source old new : List T) (statu
 
 module _ {S T : Type 0} (rows source_rows : Rows) (source : List S) (old new : List T)
     (status : ℕ) where
-  -- pixels of so many bytes in another bit depth
+  -- pixels of the given number of bytes in another bit depth
   abbrev pub IsAtDepth : PixelForm S → PixelForm T → ℕ → ℕ → ℕ → ℕ → Type 0
   IsAtDepth form other bytes other_bytes from to =
       Shows rows source_rows source old new status (is_depth bytes from && is_depth other_bytes to)
@@ -131,8 +131,8 @@ module _ (rows source_rows : Rows) (source old new : List ℕ) (status : ℕ) wh
       (encoded_size two_bytes.size source_rows rows)
       (map (bytes_of_pixels two_bytes) (picture source_rows source))
 
--- each entry of the border is the pixel nearest to it; the picture in it stays, and so does all
--- after it
+-- each entry of the border is the nearest pixel; the picture and all entries after the border are
+-- unchanged
 pub record PadsBorder {T : Type 0} (layout : Bordered) (old new : List T)
     (status : ℕ) : Type 0 where
   pub answer : status ≡ status_of_one (is_bordered layout (length old))

@@ -1,4 +1,4 @@
--- Numbers that C gives in place of a choice, and whether they are one.
+-- Numbers that C passes for a choice, and whether they are those of one.
 use Rattle.std.specs.Prelude.{ℕ, ◌+◌, ◌-◌, ◌*◌, ◌/◌, ◌==◌, Bool, true, false, ◌&&◌, if◌then◌else◌, nat_eq, nat_le, nat_lt}
 use Rattle.v_frame_slices.specs.declared.layout.Rows.{Rows}
 use Rattle.v_frame_slices.specs.Status.{same_size}
@@ -26,11 +26,11 @@ abbrev pub turned_size : TheTurn → Rows → Rows → Bool
 turned_size turn a b =
     if exchanges turn then nat_eq a.width b.height && nat_eq a.height b.width else same_size a b
 
--- a bit depth that pixels of so many bytes can have
+-- a bit depth that pixels of the given number of bytes can have
 abbrev pub is_depth : ℕ → ℕ → Bool
 is_depth bytes depth = nat_le 8 depth && nat_le depth (8 * bytes)
 
--- so many columns or rows are one for each `ratio` that is begun
+-- the number of columns or rows divided by the ratio, rounded up
 abbrev pub is_begun : ℕ → ℕ → ℕ → Bool
 is_begun size ratio items = nat_eq items ((size + (ratio - 1)) / ratio)
 

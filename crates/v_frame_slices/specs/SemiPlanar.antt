@@ -1,4 +1,4 @@
--- Frames whose chroma takes turns in one plane, as NV12, NV16, NV24 and P016 have it.
+-- Frames with interleaved chroma, as in NV12, NV16, NV24 and P016.
 use Rattle.std.specs.Prelude.{ℕ, ◌==◌, Bool, ◌&&◌, if◌then◌else◌, nat_le}
 use Rattle.v_frame_slices.specs.Numbers.{subsampled_size}
 use Rattle.v_frame_slices.specs.Status.{encoded_size, same_size}
@@ -14,7 +14,7 @@ columns_by format = if format == 3 then 1 else 2
 abbrev pub rows_by : ℕ → ℕ
 rows_by format = if format == 1 then 2 else 1
 
--- luma has one size, chroma covers it, and the samples of its two components take turns
+-- luma has one size, chroma covers it, and its two components are interleaved
 abbrev pub have_layout : ℕ → Rows → Rows → Rows → Rows → Rows → Bool
 have_layout format y other_y uv u v =
     same_size y other_y && (subsampled_size (columns_by format) (rows_by format) y u

@@ -1,5 +1,4 @@
--- Sizes of which a picture can be resized to others: what is counted on the way stays within 64
--- bits.
+-- Sizes between which a picture can be resized: the counts on the way stay within 64 bits.
 use Rattle.std.specs.Prelude.{◌*◌, ◌^◌, Bool, ◌&&◌, nat_le, nat_lt}
 use Rattle.v_frame_slices.specs.declared.layout.Rows.{Rows}
 

@@ -1,4 +1,4 @@
--- What the pixels of pictures add up to, as C reads it.
+-- The sums of the pixels of pictures, as C reads them.
 use Rattle.std.specs.Prelude.{ℕ, ◌≡◌, List, length}
 use Rattle.v_frame_statistics.specs.Prelude.{sum_of_products, sum_of_squares, sum_of_values, IsLeast, IsGreatest}
 use Rattle.v_frame_slices.specs.Layout.{number_of}

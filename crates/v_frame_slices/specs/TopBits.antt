@@ -1,5 +1,5 @@
--- Frames whose samples stand in the top bits of words, and whose chroma takes turns in one plane,
--- as in P010, P210 and P410.
+-- Frames with samples in the top bits of words and with interleaved chroma, as in P010, P210 and
+-- P410.
 use Rattle.std.specs.Prelude.{ℕ, ◌≡◌, ◌-◌, ◌*◌, ◌/◌, ◌%◌, ◌^◌, List, length}
 use Rattle.v_frame.specs.Prelude.{Table}
 use Rattle.v_frame_slices.specs.Calls.{Keeps}
@@ -11,16 +11,17 @@ use Rattle.v_frame_slices.specs.declared.layout.Rows.{Rows}
 use Rattle.v_frame_ops.specs.Prelude.{combined, mapped}
 use Rattle.v_frame_semi_planar.specs.Interleaved.{interleaved}
 
--- words with samples of so many bits in their top ones: the bits of a sample above those are lost
+-- words with samples of a bit depth in their top bits: the bits of a sample above the depth are
+-- lost
 abbrev pub in_top_bits : ℕ → Table ℕ → Table ℕ
 in_top_bits depth samples = mapped (mapped (λ p. p * 2 ^ (16 - depth) % 2 ^ 16)) samples
 
--- the samples of such words: the bits of a word below them are lost
+-- the samples of such words: the lower bits of a word are lost
 abbrev pub of_top_bits : ℕ → Table ℕ → Table ℕ
 of_top_bits depth words = mapped (mapped (λ p. p / 2 ^ (16 - depth))) words
 
 module _ (depth format : ℕ) (y_rows uv_rows source_rows u_rows v_rows : Rows) where
-  -- luma has the source in its top bits, and chroma u and v by turns
+  -- luma has the source in its top bits, and chroma has u and v, interleaved
   pub record AreInTopBits (y new_y uv new_uv source u v : List ℕ) (status : ℕ) : Type 0 where
     pub answer : status ≡ status_of_number (is_depth 2 depth)
         (status_of_format (is_semi_planar format)
@@ -35,7 +36,8 @@ module _ (depth format : ℕ) (y_rows uv_rows source_rows u_rows v_rows : Rows) 
     pub y_kept : Keeps y_rows y new_y status
     pub uv_kept : Keeps uv_rows uv new_uv status
 
-  -- luma is what the source has in its top bits, and u and v by turns are what its chroma has there
+  -- luma is what the source has in its top bits, and u and v, interleaved, are what its chroma has
+  -- there
   pub record AreOfTopBits (y new_y u new_u v new_v source uv : List ℕ) (status : ℕ) : Type 0 where
     pub answer : status ≡ status_of_number (is_depth 2 depth)
         (status_of_format (is_semi_planar format)

@@ -46,7 +46,7 @@ two_of_four = refl
 none_between : count_between one_byte.value 3 2 (1 ∷ 2 ∷ 3 ∷ 4 ∷ []) ≡ 0
 none_between = refl
 
--- 10 bits: 64 times as much, and of a larger sample what is left of it
+-- 10 bits: 64 times the sample, and the low bits of a larger sample
 p010 : in_top_bits 10 ((1 ∷ 1023 ∷ 1025 ∷ []) ∷ []) ≡ (64 ∷ 65472 ∷ 64 ∷ []) ∷ []
 p010 = refl
 

@@ -40,7 +40,7 @@ long_lines = refl
 beyond_the_count : is_counted (record two_by_one { height = 4611686018427387904 }) ≡ false
 beyond_the_count = refl
 
--- a picture of 4 by 2 has no window, and what is tested before is told first
+-- no window fits a picture of 4 by 2, and the earlier tests come first
 no_window : status_of_windows 0 (has_window four_by_two) ≡ 8
 no_window = refl
 

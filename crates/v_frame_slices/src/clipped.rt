@@ -1,4 +1,4 @@
-//! Pictures copied as far as they lie inside others, for any type of pixel.
+//! Copies of the parts of pictures that lie inside of others, for any type of pixel.
 ghost use Rattle.v_frame_slices.specs.Made.{IsCopiedTo};
 
 use crate::layout::Rows;
@@ -6,8 +6,8 @@ use crate::status::{FIRST, OK, SECOND};
 use v_frame::pixel::Pixel;
 use v_frame_ops::rows::copy_region_clipped;
 
-/// Copies the picture of the second rows into the first ones, with its first pixel at column `x` of row `y`, either of which may
-/// be negative or past the edge: what lies outside is left out.
+/// Copies the picture of the source rows to the rows of the buffer, with its first pixel at column `x` of row `y`. Both may be
+/// negative or past the edge. Pixels outside of the rows are left out.
 pub fn copy_clipped<T: Pixel>(
     rows: &Rows,
     buffer: &mut [T],

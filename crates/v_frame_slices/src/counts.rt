@@ -1,4 +1,4 @@
-//! How many pixels have a value, or one in a range.
+//! Counts of pixels with a value, or with a value in a range.
 ghost use Rattle.std.specs.Prelude.{◌≡◌, ◌≢◌, length, nat_eq};
 ghost use Rattle.v_frame.specs.Prelude.{row_major};
 ghost use Rattle.v_frame_slices.specs.Found.{CountsBetween};
@@ -28,7 +28,7 @@ pub fn between<T: Pixel>(rows: &Rows, buffer: &[T], least: T, greatest: T, count
     OK
 }
 
-/// Makes entry `v` of `counts` how many pixels have the value `v`.
+/// Sets entry `v` of `counts` to the number of pixels with the value `v`.
 pub fn histogram_of_bytes(rows: &Rows, buffer: &[u8], counts: &mut [u64]) -> u32
     ensures status { result ≡ status_of_sized (fits rows.now (length buffer.now)) (nat_eq (length counts.old) 256) }
     ensures counts { result ≡ 0 → Counts 256 (row_major (picture rows.now buffer.now)) counts.new }
@@ -44,7 +44,7 @@ pub fn histogram_of_bytes(rows: &Rows, buffer: &[u8], counts: &mut [u64]) -> u32
     OK
 }
 
-/// Makes entry `v` of `counts` how many pixels have the value `v`. A pixel of a value that has no entry is not counted.
+/// Sets entry `v` of `counts` to the number of pixels with the value `v`. A pixel whose value has no entry is not counted.
 pub fn histogram_of_words(rows: &Rows, buffer: &[u16], counts: &mut [u64]) -> u32
     ensures status { result ≡ status_of_one (fits rows.now (length buffer.now)) }
     ensures counts { result ≡ 0

@@ -17,7 +17,7 @@ pub struct FrameRequest {
     pub format: u32,
 }
 
-/// A plane in a buffer: the index that it begins at, how many entries it has, and its layout.
+/// A plane in a buffer: the index at which it begins, the number of its entries, and its layout.
 #[derive(Drop)]
 #[repr(C)]
 pub struct PlanePart {
@@ -26,7 +26,7 @@ pub struct PlanePart {
     pub layout: Bordered,
 }
 
-/// The planes of a frame, and how many entries they have together.
+/// The planes of a frame, and the number of their entries together.
 #[derive(Drop)]
 #[repr(C)]
 pub struct FrameParts {
@@ -63,7 +63,7 @@ pub fn lay_out(request: &FrameRequest, parts: &mut FrameParts) -> u32
     OK
 }
 
-/// Lays out luma alone.
+/// Lays out a frame without chroma.
 fn of_luma(request: &FrameRequest) -> Option<FrameParts>
     ensures { let luma = luma_in request.now (1, 1) in
         SomeIff result (IsTrue (is_bordered luma usize_max)) (luma_parts luma) }
@@ -81,7 +81,7 @@ fn of_luma(request: &FrameRequest) -> Option<FrameParts>
     })
 }
 
-/// Lays out luma and chroma of these ratios.
+/// Lays out luma, and chroma with the given ratios.
 fn of_all(request: &FrameRequest, columns: usize, rows: usize) -> Option<FrameParts>
     requires columns { 0 < columns }
     requires rows { 0 < rows }
@@ -114,7 +114,7 @@ fn of_all(request: &FrameRequest, columns: usize, rows: usize) -> Option<FramePa
     })
 }
 
-/// Returns the layout of luma, and how many entries it has.
+/// Returns the layout of luma, and the number of its entries.
 fn luma_of(request: &FrameRequest, columns: usize, rows: usize) -> Option<(Bordered, usize)>
     requires columns { 0 < columns }
     requires rows { 0 < rows }
@@ -126,7 +126,7 @@ fn luma_of(request: &FrameRequest, columns: usize, rows: usize) -> Option<(Borde
     sized(request.width, request.height, across, down)
 }
 
-/// Returns the layout of chroma, and how many entries it has.
+/// Returns the layout of chroma, and the number of its entries.
 fn chroma_of(request: &FrameRequest, columns: usize, rows: usize) -> Option<(Bordered, usize)>
     requires columns { 0 < columns }
     requires rows { 0 < rows }
@@ -141,7 +141,7 @@ fn chroma_of(request: &FrameRequest, columns: usize, rows: usize) -> Option<(Bor
     )
 }
 
-/// Returns a layout with these paddings on the left and the right, and above and below, and how many entries it has.
+/// Returns a layout with a padding on the left and the right and a padding above and below, and the number of its entries.
 fn sized(width: usize, height: usize, across: usize, down: usize) -> Option<(Bordered, usize)>
     ensures { let layout = evenly_bordered width height across down in
         SomeIff result (IsTrue (is_bordered layout usize_max)) (layout, size_of layout) }
@@ -158,7 +158,7 @@ fn sized(width: usize, height: usize, across: usize, down: usize) -> Option<(Bor
     Some((layout, count))
 }
 
-/// Returns no plane.
+/// Returns a plane of which all numbers are 0.
 fn none() -> PlanePart
     ensures { result ≡ no_part }
 {

@@ -1,4 +1,4 @@
-//! What C and the exports give each other beside slices. Any bytes in these are a value.
+//! The structs that C and the exports exchange beside slices. Any bytes in them are a valid value.
 ghost use Rattle.std.specs.Prelude.{◌≡◌, ◌*◌, ◌<◌, ◌↔◌, nat_eq, IsTrue, IfSome, SomeIff, length};
 ghost use Rattle.v_frame.specs.Prelude.{alloc_size_of, height_of, width_of, RowsFit};
 ghost use Rattle.v_frame_slices.specs.Layout.{fits, geometry_in, is_bordered, number_of, picture};
@@ -10,7 +10,7 @@ use v_frame::plane::{PlaneGeometry, RowsRef, rows_fit};
 use v_frame_convert::subsampled_size;
 use v_frame_turn::Turn;
 
-/// Rows in a buffer: row `y` is the `width` entries from index `stride * y` on. All counts are of entries.
+/// Rows in a buffer: row `y` is the `width` entries from index `stride * y` on. All three numbers are counts of entries.
 #[repr(C)]
 pub struct Rows {
     pub width: usize,
@@ -18,7 +18,7 @@ pub struct Rows {
     pub stride: usize,
 }
 
-/// A picture in a border, which is the whole of a buffer, or its beginning. The stride is `pad_left + width + pad_right`.
+/// A picture in a border, from the beginning of a buffer on. The stride is `pad_left + width + pad_right`.
 #[derive(Drop)]
 #[repr(C)]
 pub struct Bordered {
@@ -38,7 +38,7 @@ pub struct Sum {
     pub high: u64,
 }
 
-/// A column and a row, where `found` is 1. Where it is 0 both are 0.
+/// A column and a row if `found` is 1. If it is 0, both are 0.
 #[derive(Drop)]
 #[repr(C)]
 pub struct Place {
@@ -48,7 +48,7 @@ pub struct Place {
 }
 
 impl Rows {
-    /// Returns whether the rows aren't empty, don't overlap and end within so many entries.
+    /// Returns whether the rows are not empty, do not overlap, and end within the given number of entries.
     pub fn fit(&self, entries: usize) -> bool
         ensures value { result ≡ fits self.now entries }
         ensures meaning { IsTrue result ↔ RowsFit self.now.width self.now.height self.now.stride entries }
@@ -56,7 +56,7 @@ impl Rows {
         rows_fit(self.width, self.height, self.stride, entries)
     }
 
-    /// Returns these rows of a buffer, where they fit.
+    /// Returns the rows of a buffer, or `None` if they do not fit it.
     pub fn of<'a, T>(&self, buffer: &'a [T]) -> Option<RowsRef<'a, T>>
         ensures rows { SomeIff result (IsTrue (fits self.now (length buffer.now)))
             (picture self.now buffer.now) }
@@ -80,7 +80,7 @@ impl Rows {
         is_twice(other.width, self.width) && is_twice(other.height, self.height)
     }
 
-    /// Returns whether other rows are as many, and have two entries for each of these.
+    /// Returns whether other rows have the same height and twice the width.
     pub fn has_half_the_width_of(&self, other: &Rows) -> bool
         ensures { result ≡ encoded_size 2 self.now other.now }
     {
@@ -89,7 +89,7 @@ impl Rows {
 }
 
 impl Rows {
-    /// Returns whether this has the size of another picture that is turned in this way.
+    /// Returns whether these rows have the size of another picture after it is turned in the given way.
     pub fn has_turned_size_of(&self, other: &Rows, turn: Turn) -> bool
         ensures value { result ≡ turned_size turn self.now other.now }
         ensures meaning { IsTrue result → SizeFits (exchanges turn) other.now.width other.now.height
@@ -101,7 +101,8 @@ impl Rows {
         self.same_size(other)
     }
 
-    /// Returns whether another picture has a column for each `ratio_x` of these that are begun, and a row for each `ratio_y`.
+    /// Returns whether the width of another picture is the width of these rows divided by `ratio_x`, rounded up, and its height
+    /// their height divided by `ratio_y`, rounded up.
     pub fn is_subsampled_by(&self, other: &Rows, ratio_x: usize, ratio_y: usize) -> bool
         requires columns { 0 < ratio_x }
         requires rows { 0 < ratio_y }
@@ -120,7 +121,7 @@ fn is_twice(number: usize, half: usize) -> bool
 }
 
 impl Bordered {
-    /// Returns the geometry, and how many entries it takes, where so many are there.
+    /// Returns the geometry and the number of its entries, or `None` if the buffer has fewer.
     pub fn of(&self, entries: usize) -> Option<(PlaneGeometry, usize)>
         ensures { let geometry = geometry_in self.now in
             SomeIff result (IsTrue (is_bordered self.now entries))
@@ -145,7 +146,7 @@ impl Bordered {
 }
 
 impl Sum {
-    /// Returns a number in its two halves.
+    /// Returns the low and the high half of a number.
     pub fn of(number: u128) -> Sum
         ensures { number_of result ≡ number }
     {

@@ -1,7 +1,7 @@
-//! What the library for C does, for any type of pixel: `v_frame_c` exports it.
+//! The calls of the library for C, for any type of pixel. The crate `v_frame_c` exports them.
 //!
-//! Each call takes slices, and the layout of the rows in each; it tests everything that it can, and answers a status. None asks
-//! for anything by a contract.
+//! Each call takes slices and the layout of the rows in each. It tests its arguments and returns a status. No call has a
+//! precondition.
 #![tactic(auto)]
 
 pub mod change;

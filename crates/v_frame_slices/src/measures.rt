@@ -1,4 +1,4 @@
-//! How far two pictures are apart, as numbers, for any type of pixel.
+//! Measures of two pictures, for any type of pixel.
 ghost use Rattle.v_frame_slices.specs.Found.{CountsAbove, FindsGreatest, MeasuresError, MeasuresSimilarity};
 
 use crate::convert::is_depth;
@@ -39,7 +39,7 @@ pub fn mean_squared_error<T: Pixel>(
     OK
 }
 
-/// Measures the structural similarity of two pictures of one size, at so many bits of a sample.
+/// Measures the structural similarity of two pictures of one size whose samples have a bit depth.
 pub fn ssim<T: Pixel>(
     a_rows: &Rows,
     a: &[T],
@@ -98,7 +98,7 @@ pub fn greatest_difference<T: Pixel>(
     OK
 }
 
-/// Counts the places at which the values of two pictures of one size are further apart than a threshold.
+/// Counts the places at which the values of two pictures of one size differ by more than a threshold.
 pub fn count_above<T: Pixel>(
     a_rows: &Rows,
     a: &[T],

@@ -8,7 +8,7 @@ use crate::status::{FIRST, OK, SECOND, SIZES};
 use v_frame::pixel::Pixel;
 use v_frame_resize::rows as sizes;
 
-/// Makes the first rows show the picture of the second ones: each pixel is the mean of the area that it covers.
+/// Resizes the picture of the source rows by a box filter: each pixel is the mean of the area that it covers.
 pub fn by_area<T: Pixel>(rows: &Rows, buffer: &mut [T], source_rows: &Rows, source: &[T]) -> u32
     ensures made { IsResizedByArea rows.now source_rows.now source.now buffer.old buffer.new result T.form }
 {
@@ -25,7 +25,8 @@ pub fn by_area<T: Pixel>(rows: &Rows, buffer: &mut [T], source_rows: &Rows, sour
     OK
 }
 
-/// Makes the first rows show the picture of the second ones: each pixel is the one that holds its center.
+/// Resizes the picture of the source rows by the nearest neighbor: each pixel is the pixel of the source that contains its
+/// center.
 pub fn by_nearest<T: Pixel>(rows: &Rows, buffer: &mut [T], source_rows: &Rows, source: &[T]) -> u32
     ensures made { IsResizedByNearest rows.now source_rows.now source.now buffer.old buffer.new result }
 {
@@ -43,14 +44,14 @@ pub fn by_nearest<T: Pixel>(rows: &Rows, buffer: &mut [T], source_rows: &Rows, s
 }
 
 impl Rows {
-    /// Returns whether a picture of another size can be resized to this one by areas.
+    /// Returns whether a picture of another size can be resized to these rows by a box filter.
     pub fn have_areas_of(&self, source: &Rows) -> bool
         ensures { result ≡ have_areas self.now source.now }
     {
         sizes::can_resize(source.width, source.height, self.width, self.height)
     }
 
-    /// Returns whether the units of a line and of a column can be counted.
+    /// Returns whether the units of a row and of a column can be counted in 64 bits.
     pub fn are_counted(&self) -> bool
         ensures { result ≡ is_counted self.now }
     {

@@ -1,4 +1,4 @@
-//! Two planes of chroma as one whose samples take turns, and back, for any type of pixel.
+//! Two planes of chroma interleaved in one plane, and separated again, for any type of pixel.
 ghost use Rattle.v_frame_slices.specs.ChromaByTurns.{AreDeinterleaved, IsInterleaved};
 
 use crate::layout::Rows;
@@ -6,7 +6,7 @@ use crate::status::{FIRST, OK, SECOND, SIZES, THIRD};
 use v_frame::pixel::Pixel;
 use v_frame_semi_planar::rows as semi_planar;
 
-/// Makes the first rows show the pixels of the second and of the third ones by turns.
+/// Interleaves the pixels of the second and the third rows in the first rows.
 pub fn interleave<T: Pixel>(
     rows: &Rows,
     buffer: &mut [T],
@@ -33,7 +33,7 @@ pub fn interleave<T: Pixel>(
     OK
 }
 
-/// Makes the second and the third rows of the pixels of the first ones, which go to them by turns.
+/// Separates the interleaved pixels of the first rows into the second and the third rows.
 pub fn deinterleave<T: Pixel>(
     rows: &Rows,
     buffer: &[T],

@@ -1,31 +1,32 @@
-//! What an export answers.
+//! The statuses that exports return.
 
-/// All went as asked.
+/// The call has succeeded.
 pub const OK: u32 = 0;
 
-/// The first rows don't fit their buffer: a size is zero, the stride is below the width, or the last row ends past the buffer.
+/// The first rows do not fit their buffer: a size is 0, the stride is below the width, or the last row ends past the end of the
+/// buffer.
 pub const FIRST: u32 = 1;
 
-/// The second rows don't fit theirs.
+/// The second rows do not fit their buffer.
 pub const SECOND: u32 = 2;
 
-/// The sizes don't belong together.
+/// The sizes of the pictures are not those that the call requires.
 pub const SIZES: u32 = 3;
 
-/// There is no format of this number.
+/// There is no format with this number, or the call does not take it.
 pub const FORMAT: u32 = 4;
 
-/// A number is none of those that stand for a choice, or is out of its range.
+/// A bit depth, a ratio, a weight or the number of a choice is out of its range.
 pub const NUMBER: u32 = 5;
 
-/// The third rows don't fit their buffer.
+/// The third rows do not fit their buffer.
 pub const THIRD: u32 = 6;
 
-/// The fourth rows don't fit theirs.
+/// The fourth rows do not fit their buffer.
 pub const FOURTH: u32 = 7;
 
-/// No window of 8 by 8 pixels has room in the pictures.
+/// A side of the pictures is below 8, so that no window of 8 by 8 pixels fits.
 pub const WINDOWS: u32 = 8;
 
-/// The fifth rows don't fit theirs.
+/// The fifth rows do not fit their buffer.
 pub const FIFTH: u32 = 9;

@@ -1,4 +1,4 @@
-//! Frames whose samples stand in the top bits of words and whose chroma takes turns in one plane, made of three planes and back.
+//! Frames with interleaved chroma and with samples in the top bits of words, made of three planes and converted back.
 ghost use Rattle.std.specs.Prelude.{◌≡◌, ◌*◌, ◌<◌, ◌≤◌, length};
 ghost use Rattle.v_frame.specs.Prelude.{height_of, strided_rows, width_of, KeepsRest, RowsFit};
 ghost use Rattle.v_frame_slices.specs.TopBits.{in_top_bits, of_top_bits, AreInTopBits, AreOfTopBits};
@@ -13,8 +13,8 @@ use v_frame::plane::RowsRef;
 use v_frame_convert::rows::map_into;
 use v_frame_semi_planar::rows as semi_planar;
 
-/// Makes the first rows luma, and the second ones chroma, of a frame of three planes of samples of so many bits, in the top bits of
-/// their words.
+/// Writes the luma and the interleaved chroma of a frame of three planes, whose samples have a bit depth, with the samples in
+/// the top bits of words. The first rows are luma, the second rows chroma.
 pub fn to_top_bits(
     y_rows: &Rows,
     y: &mut [u16],
@@ -62,7 +62,7 @@ pub fn to_top_bits(
     OK
 }
 
-/// Makes the first three rows the planes of a frame of luma and of chroma whose samples take turns, in the top bits of words.
+/// Writes the three planes of a frame of luma and interleaved chroma, whose samples are in the top bits of words.
 pub fn from_top_bits(
     y_rows: &Rows,
     y: &mut [u16],
@@ -110,7 +110,7 @@ pub fn from_top_bits(
     OK
 }
 
-/// Makes the rows show samples in the top bits of words.
+/// Writes samples in the top bits of words.
 fn raise(
     source: &RowsRef<'_, u16>,
     buffer: &mut [u16],
@@ -131,7 +131,7 @@ fn raise(
     map_into(source, buffer, width, height, stride, |p: u16| p << unused);
 }
 
-/// Makes the rows show samples that are in the top bits of words.
+/// Reads samples from the top bits of words.
 fn lower(
     source: &RowsRef<'_, u16>,
     buffer: &mut [u16],
@@ -152,7 +152,7 @@ fn lower(
     map_into(source, buffer, width, height, stride, |p: u16| p >> unused);
 }
 
-/// Makes the rows show the samples of two pictures by turns, in the top bits of words.
+/// Interleaves the samples of two pictures in the top bits of words.
 fn raise_by_turns(
     first: &RowsRef<'_, u16>,
     second: &RowsRef<'_, u16>,
@@ -177,7 +177,7 @@ fn raise_by_turns(
     semi_planar::to_top_bits(buffer, width, height, stride, depth);
 }
 
-/// Makes the rows of two buffers, of one size, show the samples that are in the top bits of words, by turns.
+/// Separates interleaved samples in the top bits of words into the rows of two buffers of one size.
 fn lower_apart(
     source: &RowsRef<'_, u16>,
     size: (usize, usize),

@@ -8,7 +8,7 @@ use crate::status::{FIRST, NUMBER, OK, SECOND, SIZES};
 use v_frame::pixel::Pixel;
 use v_frame_turn::{Turn, rows as turns};
 
-/// Makes the first rows show the picture of the second ones, turned in the way that a number says.
+/// Writes the picture of the source rows turned in the way of a number.
 pub fn turn<T: Pixel>(
     rows: &Rows,
     buffer: &mut [T],
@@ -34,7 +34,7 @@ pub fn turn<T: Pixel>(
     OK
 }
 
-/// Returns the way to turn that a number says.
+/// Returns the way to turn of a number.
 fn numbered_turn(number: u32) -> Option<Turn>
     ensures { SomeIff result (IsTrue (is_turn number)) (turn_by number) }
 {

@@ -1,4 +1,4 @@
-//! Frames whose chroma takes turns in one plane, made of three planes and back, for any type of pixel.
+//! Frames with interleaved chroma, made of three planes and converted back, for any type of pixel.
 ghost use Rattle.std.specs.Prelude.{◌≡◌, IsTrue};
 ghost use Rattle.v_frame_slices.specs.SemiPlanar.{columns_by, have_layout, is_semi_planar, rows_by};
 ghost use Rattle.v_frame_slices.specs.ChromaByTurns.{ArePlanesOf, IsSemiPlanarOf};
@@ -9,7 +9,8 @@ use v_frame::pixel::Pixel;
 use v_frame::plane::copy_rows;
 use v_frame_semi_planar::rows as semi_planar;
 
-/// Makes the first rows luma, and the second ones chroma, of a frame of three planes: those of luma, of U and of V.
+/// Writes the luma and the interleaved chroma of a frame of the three planes Y, U and V. The first rows are luma, the second
+/// rows chroma.
 pub fn to_semi_planar<T: Pixel>(
     y_rows: &Rows,
     y: &mut [T],
@@ -52,7 +53,7 @@ pub fn to_semi_planar<T: Pixel>(
     OK
 }
 
-/// Makes the first three rows the planes of a frame of luma and of chroma whose samples take turns.
+/// Writes the three planes of a frame of luma and interleaved chroma.
 pub fn from_semi_planar<T: Pixel>(
     y_rows: &Rows,
     y: &mut [T],
@@ -96,14 +97,14 @@ pub fn from_semi_planar<T: Pixel>(
     OK
 }
 
-/// Returns whether there are such frames of the format of this number.
+/// Returns whether the format of a number is one with interleaved chroma: 4:2:0, 4:2:2 or 4:4:4.
 pub fn is_semi_planar(format: u32) -> bool
     ensures { result ≡ is_semi_planar format }
 {
     1 <= format && format <= 3
 }
 
-/// Returns whether the sizes are those of a frame in the format of this number.
+/// Returns whether the sizes are those of a frame in the format of a number.
 pub fn have_layout(y: &Rows, other_y: &Rows, uv: &Rows, u: &Rows, v: &Rows, format: u32) -> bool
     requires known { IsTrue (is_semi_planar format) }
     ensures { result ≡ have_layout format y.now other_y.now uv.now u.now v.now }
@@ -115,7 +116,7 @@ pub fn have_layout(y: &Rows, other_y: &Rows, uv: &Rows, u: &Rows, v: &Rows, form
         && u.has_half_the_width_of(uv)
 }
 
-/// Returns how many columns and rows of luma there are for one of chroma.
+/// Returns the numbers of columns and rows of luma for one column and one row of chroma.
 fn ratios(format: u32) -> (usize, usize)
     ensures { result ≡ (columns_by format, rows_by format) }
 {

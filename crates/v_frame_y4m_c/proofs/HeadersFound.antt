@@ -7,17 +7,20 @@ use Rattle.v_frame_y4m.specs.declared.color.ChromaSiting.{ChromaSiting}
 use Rattle.v_frame_y4m.specs.declared.color.Color.{Color}
 use Rattle.v_frame_y4m.specs.declared.header.StreamHeader.{StreamHeader}
 use Rattle.v_frame_slices.specs.Formats.{format_number}
+use Rattle.v_frame_y4m_c.specs.Extensions.{range_number}
 use Rattle.v_frame_y4m_c.specs.Header.{interlacing_number, numbers_of, ratio_numbers, siting_number}
+use Rattle.v_frame_y4m_c.specs.Numbers.{without_range}
 use Rattle.v_frame_y4m_c.specs.declared.header.Header.{Header}
 
--- numbers that agree one by one are the numbers
+-- a header whose numbers are the given ones, one by one, has all of them
 pub same_numbers : (n : Header) (h : StreamHeader) → h.width ≡ n.width → h.height ≡ n.height
     → ratio_numbers h.frame_rate ≡ n.frame_rate → ratio_numbers h.pixel_aspect ≡ n.pixel_aspect
     → format_number (subsampling_of h.color) ≡ n.format → depth_of h.color ≡ n.bit_depth
-    → siting_number (siting_of h.color) ≡ n.siting → interlacing_number h.interlacing ≡ n.interlacing → numbers_of h ≡ n
-same_numbers n h width height rate aspect format depth siting interlacing = rw (width, height, rate, aspect, format, depth, siting, interlacing)
+    → siting_number (siting_of h.color) ≡ n.siting → interlacing_number h.interlacing ≡ n.interlacing
+    → range_number h.extensions ≡ 0 → numbers_of h ≡ without_range n
+same_numbers n h width height rate aspect format depth siting interlacing range = rw (width, height, rate, aspect, format, depth, siting, interlacing, range)
 
--- a color that was found is found by what it has
+-- a color that was found is found again by its own format, depth and siting
 pub found_by_its_own : (f : ChromaSubsampling) (bits : ℕ) (siting : Option ChromaSiting) (c : Color)
     → color_with f bits siting ≡ Some c → subsampling_of c ≡ f → depth_of c ≡ bits → siting_of c ≡ siting
     → color_with (subsampling_of c) (depth_of c) (siting_of c) ≡ Some c

@@ -1,1 +1,2 @@
+mod ExtensionFaults
 pub mod HeadersFound

@@ -12,6 +12,7 @@ use Rattle.v_frame_y4m.specs.declared.header.StreamHeader.{StreamHeader}
 use Rattle.v_frame_y4m.specs.declared.error.HeaderError.{HeaderError}
 use Rattle.v_frame_y4m.specs.declared.error.HeaderError.TheVariants.{NotAStream, Missing, Duplicate, Malformed}
 use Rattle.v_frame_y4m.specs.declared.error.HeaderError.TheVariants.{ZeroSize, SizeTooLarge, UnknownColor, OutOfMemory}
+use Rattle.v_frame_y4m_c.specs.Extensions.{range_number}
 use Rattle.v_frame_y4m_c.specs.declared.header.Header.{Header}
 use Rattle.v_frame_y4m_c.specs.declared.header.Ratio.{Ratio}
 
@@ -33,7 +34,7 @@ abbrev pub ratio_numbers : Option TheRatio → Ratio
 ratio_numbers None = record { stated = 0; numerator = 0; denominator = 0 }
 ratio_numbers (Some r) = record { stated = 1; numerator = r.numerator; denominator = r.denominator }
 
--- what a header says, in numbers
+-- the numbers of a header
 abbrev pub numbers_of : StreamHeader → Header
 numbers_of h =
     record {
@@ -45,9 +46,10 @@ numbers_of h =
       interlacing = interlacing_number h.interlacing;
       frame_rate = ratio_numbers h.frame_rate;
       pixel_aspect = ratio_numbers h.pixel_aspect;
+      range = range_number h.extensions;
     }
 
--- what an error answers
+-- the status of an error
 abbrev pub status_of : HeaderError → ℕ
 status_of NotAStream = 1
 status_of (Missing letter) = 2

@@ -1,7 +1,9 @@
+pub mod Extensions
 pub mod Header
 pub mod Lax
 pub mod Lines
 pub mod Numbers
 pub mod Status
+pub mod WorkedExtensions
 pub mod WorkedHeader
 pub mod WorkedLines

@@ -1,11 +1,12 @@
-//! A header in numbers. Any bytes in these structs are a value.
+//! A header in numbers. Any bytes in these structs are a valid value.
 ghost use Rattle.std.specs.Prelude.{◌≡◌};
 ghost use Rattle.v_frame_y4m_c.specs.Header.{interlacing_number, numbers_of, ratio_numbers, siting_number};
 
+use crate::extensions::range_of;
 use v_frame_slices::formats::number_of_format;
 use v_frame_y4m::{ChromaSiting, Interlacing, Ratio as TheRatio, StreamHeader};
 
-/// Two numbers, where `stated` is 1. Else all three are 0.
+/// Two numbers if `stated` is 1. Otherwise all three are 0.
 #[derive(Drop)]
 #[repr(C)]
 pub struct Ratio {
@@ -14,7 +15,7 @@ pub struct Ratio {
     pub stated: u32,
 }
 
-/// What a header line says.
+/// What a header line states.
 #[derive(Drop)]
 #[repr(C)]
 pub struct Header {
@@ -26,10 +27,11 @@ pub struct Header {
     pub bit_depth: u32,
     pub siting: u32,
     pub interlacing: u32,
+    pub range: u32,
 }
 
 impl Header {
-    /// Returns what a header says, in numbers.
+    /// Returns the numbers of a header.
     pub fn of(header: &StreamHeader) -> Header
         ensures { result ≡ numbers_of header.now }
     {
@@ -42,6 +44,7 @@ impl Header {
             bit_depth: u32::from(header.color.bit_depth()),
             siting: siting_of(header.color.siting()),
             interlacing: interlacing_of(header.interlacing),
+            range: range_of(header.extensions.as_slice()),
         }
     }
 }

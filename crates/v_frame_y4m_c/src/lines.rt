@@ -4,21 +4,21 @@ ghost use Rattle.v_frame_y4m_c.specs.Lines.{HasNoLine, IsFirstLine};
 
 use v_frame_y4m::MAX_LINE_BYTES;
 
-/// Why no line stands at the front of bytes.
+/// Why bytes do not begin with a line.
 #[derive(Drop)]
 pub enum LineFault {
-    /// There is no line feed among the bytes, and they are no more than a line may have.
+    /// There is no line feed among the bytes, of which there are at most as many as a line may have.
     Unfinished,
-    /// The line has more bytes than a line may have.
+    /// The line is longer than a line may be.
     TooLong,
 }
 
-/// Returns how many bytes the first line has, without its line feed.
+/// Returns the number of bytes of the first line, without its line feed.
 ///
 /// # Errors
 ///
-/// [`LineFault::TooLong`] where no line feed stands among the first 1025 bytes, and [`LineFault::Unfinished`] where there are
-/// fewer and none is among them.
+/// [`LineFault::TooLong`] if there is no line feed among the first 1025 bytes, and [`LineFault::Unfinished`] if there are fewer
+/// bytes and no line feed.
 pub fn line_length(bytes: &[u8]) -> Result<usize, LineFault>
     ensures found { IfOk result (IsFirstLine bytes.now) }
     ensures bound { IfOk result (λ n. n < length bytes.now) }

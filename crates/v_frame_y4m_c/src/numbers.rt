@@ -1,4 +1,4 @@
-//! The stream header that numbers are of.
+//! The stream header with given numbers.
 ghost use Rattle.std.specs.Prelude.{◌≡◌, ◌≢◌, IfErr, IfNone, IfOk, IfSome, MatchOption, Option};
 ghost use Rattle.v_frame_y4m.specs.Color.{color_with, depth_of, siting_of, subsampling_of};
 ghost use Rattle.v_frame_y4m.specs.declared.color.Color.{Color as TheColor};
@@ -16,19 +16,19 @@ use v_frame::chroma::ChromaSubsampling;
 use v_frame_slices::formats::format_of_number;
 use v_frame_y4m::{ChromaSiting, Color, Interlacing, Ratio as TheRatio, StreamHeader};
 
-/// Why numbers are of no header that has a line.
+/// Why no header with a line has the numbers.
 #[derive(Drop)]
 pub enum NumberFault {
     /// The width or the height is 0.
     ZeroSize,
-    /// A number is none of its enum, or a ratio that is not stated has numbers.
+    /// A number is not one of its enum, or a ratio that is not stated has numbers other than 0.
     NoSuchNumber,
     /// No color has the format, the bit depth and the siting.
     NoSuchColor,
 }
 
 impl Header {
-    /// Returns the stream header that these numbers are of, without extensions.
+    /// Returns the stream header with these numbers, without extensions.
     ///
     /// # Errors
     ///
@@ -57,6 +57,9 @@ impl Header {
         let Some(siting) = siting_numbered(self.siting) else {
             return Err(NumberFault::NoSuchNumber);
         };
+        if self.range > 2 {
+            return Err(NumberFault::NoSuchNumber);
+        }
         let Some(color) = color_of(format, self.bit_depth, siting) else {
             return Err(NumberFault::NoSuchColor);
         };
@@ -72,7 +75,7 @@ impl Header {
     }
 }
 
-/// Returns the color of a format, so many bits and a siting.
+/// Returns the color of a format, a bit depth and a siting.
 fn color_of(
     format: ChromaSubsampling,
     bit_depth: u32,

@@ -1,24 +1,23 @@
-//! What is answered, and which parameter is at fault.
+//! The statuses, and the letters of parameters at fault.
 ghost use Rattle.std.specs.Prelude.{◌≡◌};
 ghost use Rattle.v_frame_y4m_c.specs.Header.{letter_of, status_of};
-ghost use Rattle.v_frame_y4m_c.specs.Status.{status_of_line, status_of_numbers};
+ghost use Rattle.v_frame_y4m_c.specs.Status.{status_of_extensions, status_of_line, status_of_numbers};
 
+use crate::extensions::ExtensionFault;
 use crate::lines::LineFault;
 use crate::numbers::NumberFault;
 use v_frame_y4m::HeaderError;
 
-/// All went as asked.
+/// The call has succeeded.
 pub const OK: u32 = 0;
-/// The bytes of a frame are too many to be counted.
+/// The number of bytes of a frame does not fit `usize`.
 pub const SIZE_TOO_LARGE: u32 = 6;
-/// A request for memory was refused.
+/// A request for memory failed.
 pub const OUT_OF_MEMORY: u32 = 8;
 /// The buffer is too short for the line.
 pub const SHORT_BUFFER: u32 = 10;
-/// Another line stands where that of a frame is due.
+/// The line is not one that begins a frame.
 pub const NO_FRAME: u32 = 13;
-/// The line stands for a strict one, which was read.
-pub const LAX_LINE: u32 = 14;
 
 /// Returns the status of an error.
 pub fn status_of(error: &HeaderError) -> u32
@@ -48,7 +47,7 @@ pub fn letter_of(error: &HeaderError) -> u32
     }
 }
 
-/// Returns the status of numbers that are of no header.
+/// Returns the status of numbers that no header has.
 pub fn status_of_numbers(fault: &NumberFault) -> u32
     ensures { result ≡ status_of_numbers fault.now }
 {
@@ -59,7 +58,18 @@ pub fn status_of_numbers(fault: &NumberFault) -> u32
     }
 }
 
-/// Returns the status of bytes with no line at their front.
+/// Returns the status of a text that does not state the extensions of a header.
+pub fn status_of_extensions(fault: &ExtensionFault) -> u32
+    ensures { result ≡ status_of_extensions fault.now }
+{
+    match fault {
+        ExtensionFault::OutOfMemory => 8,
+        ExtensionFault::NotExtensions => 15,
+        ExtensionFault::OtherRange => 16,
+    }
+}
+
+/// Returns the status of bytes that do not begin with a line.
 pub fn status_of_line(fault: &LineFault) -> u32
     ensures { result ≡ status_of_line fault.now }
 {

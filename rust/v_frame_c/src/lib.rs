@@ -1,14 +1,17 @@
-//! The calls of the libraries for C, as the headers in `c_interface/include` declare them: `v_frame.h`, `v_frame_png.h` and `v_frame_y4m.h`.
+//! The calls of the libraries for C, as the headers in `c_interface/include` declare them: `v_frame.h`, `v_frame_png.h` and
+//! `v_frame_y4m.h`.
 //!
-//! They are one library here, for a program cannot link two that each hold Rust's own: `tools/install` gives it each name.
+//! Cargo builds one library with all calls, which the Python wheel contains. On Linux, `tools/install` makes three libraries of it,
+//! each with the calls of its own header.
 //!
-//! The exports are generated, and unsafe: each takes what C points to, by the functions of `foreign`, and calls what is safe.
-//! Nothing else here may be unsafe. Bodies don't panic, by proof; a panic nevertheless would stop the program, for it can't leave
-//! an `extern "C"` function.
+//! The exports are generated. They are unsafe, because they take pointers: each begins with the functions of `foreign`, which reject a
+//! null or misaligned pointer, and then calls safe code. The calls of `by_hand` do the same. No other code here may be unsafe. The
+//! bodies do not panic, by proof. A panic could not leave an `extern "C"` function, and would end the program.
 #![deny(unsafe_code, improper_ctypes_definitions)]
-// The sources are translated as they are written, for a prover too.
+// The sources are translated as they are; they are written for a prover, too.
 #![allow(clippy::manual_range_contains, clippy::needless_borrows_for_generic_args, clippy::too_many_arguments)]
 
+mod by_hand;
 mod foreign;
 mod generated {
     pub mod v_frame_c;

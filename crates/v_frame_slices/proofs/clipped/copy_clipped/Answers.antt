@@ -1,4 +1,4 @@
--- What the copy says of the rows is said of the pictures.
+-- The contract of the copy of rows is one of the pictures.
 use Rattle.std.proofs.Common.{arith, rules}
 use Rattle.std.proofs.lemmas.Grind.{common_steps}
 use Rattle.std.proofs.lemmas.Int.{ints}

@@ -1,4 +1,4 @@
--- A padding that can't be counted is of nothing that fits.
+-- No picture with a padding that cannot be counted fits.
 use Rattle.std.proofs.Common.{◌*◌}
 use Rattle.std.specs.Int.{div_ceil}
 use Rattle.v_frame.specs.Prelude.{usize_max}

@@ -1,4 +1,4 @@
--- The component is that of the number, and the source the picture of its rows.
+-- The component has the given number, and the source is the picture of its rows.
 use Rattle.std.proofs.Common.{arith, rules}
 use Rattle.std.proofs.lemmas.Grind.{common_steps}
 use Rattle.v_frame_slices.proofs.range.to_range.Goals as goal

@@ -1,4 +1,4 @@
--- The rows by turns are raised in place.
+-- The interleaved rows are raised in place.
 use Rattle.std.proofs.Common.{◌∙◌, ap}
 use Rattle.v_frame_slices.specs.TopBits.{in_top_bits}
 use Rattle.v_frame_raster.proofs.tables.StridedWrites.{rest_kept}

@@ -1,4 +1,5 @@
--- The bytes that were passed are a line, and so are they with one more that is no line feed.
+-- The bytes before the current one are a line, and with one more byte other than a line feed they
+-- are one again.
 use Rattle.std.proofs.Common.{ℕ, ◌≢◌, ◌+◌, ◌<◌, List, get_or, length, take, sym, subst, arith}
 use Rattle.std.proofs.lemmas.List.{take_all, take_more}
 use Rattle.std.proofs.lemmas.List.Elements.{All-push}

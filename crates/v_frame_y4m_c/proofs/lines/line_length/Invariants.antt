@@ -1,4 +1,4 @@
--- No line feed stands among the bytes that were passed.
+-- The bytes before the current one have no line feed.
 use Rattle.std.proofs.Common.{◌≢◌, ◌≤◌, ◌-◌, length, take}
 use Rattle.std.specs.Prelude.{All}
 use Rattle.v_frame_y4m.specs.Ascii.{line_feed}

@@ -1,4 +1,4 @@
--- The numbers of what was found are those that were given.
+-- The numbers of the header that was found are the given numbers.
 use Rattle.std.proofs.Common.{arith, refl, ap, ◌∙◌}
 use Rattle.std.proofs.lemmas.Grind.{common_steps}
 use Rattle.v_frame_y4m.specs.declared.header.StreamHeader.{StreamHeader}
@@ -22,7 +22,7 @@ returns-clause-found c =
     } in
     let siting = ap siting_number has.1.1 ∙ c.in-Some-siting_numbered.ensures in record {
       numbers = same_numbers c.args.self.now found refl refl c.in-Some.ensures c.in-Some-ratio_numbered.ensures format
-          has.1.0 siting c.in-Some-interlacing_numbered.ensures;
+          has.1.0 siting c.in-Some-interlacing_numbered.ensures (grind (arith, common_steps));
       writable = grind (arith, common_steps);
       color = found_by_its_own c.in-Some-format_of_number.format c.args.self.now.bit_depth c.in-Some-siting_numbered.siting
           c.in-Some-color_of.color (grind (arith, common_steps)) has.0 has.1.0 has.1.1;
