@@ -12,8 +12,12 @@ use crate::generated::v_frame_slices::layout::{Bordered, Rows};
 #[allow(unsafe_code)]
 #[unsafe(no_mangle)]
 pub unsafe extern "C" fn v_frame_fill_u8(rows: *const Rows, buffer: *mut u8, buffer_length: usize, pixel: u8) -> u32 {
-    let rows = unsafe { crate::foreign::reference(rows) };
-    let buffer = unsafe { crate::foreign::slice_mut(buffer, buffer_length) };
+    let Some(rows) = (unsafe { crate::foreign::reference(rows) }) else {
+        return crate::foreign::POINTER_OF_V_FRAME_C;
+    };
+    let Some(buffer) = (unsafe { crate::foreign::slice_mut(buffer, buffer_length) }) else {
+        return crate::foreign::POINTER_OF_V_FRAME_C;
+    };
     change::fill(rows, buffer, pixel)
 }
 
@@ -25,12 +29,16 @@ pub unsafe extern "C" fn v_frame_fill_u8(rows: *const Rows, buffer: *mut u8, buf
 #[allow(unsafe_code)]
 #[unsafe(no_mangle)]
 pub unsafe extern "C" fn v_frame_fill_u16(rows: *const Rows, buffer: *mut u16, buffer_length: usize, pixel: u16) -> u32 {
-    let rows = unsafe { crate::foreign::reference(rows) };
-    let buffer = unsafe { crate::foreign::slice_mut(buffer, buffer_length) };
+    let Some(rows) = (unsafe { crate::foreign::reference(rows) }) else {
+        return crate::foreign::POINTER_OF_V_FRAME_C;
+    };
+    let Some(buffer) = (unsafe { crate::foreign::slice_mut(buffer, buffer_length) }) else {
+        return crate::foreign::POINTER_OF_V_FRAME_C;
+    };
     change::fill(rows, buffer, pixel)
 }
 
-/// Copies the picture of the second rows into the first ones.
+/// Copies the picture of the source rows to the rows of the buffer, which have its size.
 ///
 /// # Safety
 ///
@@ -45,14 +53,22 @@ pub unsafe extern "C" fn v_frame_copy_u8(
     source: *const u8,
     source_length: usize,
 ) -> u32 {
-    let rows = unsafe { crate::foreign::reference(rows) };
-    let buffer = unsafe { crate::foreign::slice_mut(buffer, buffer_length) };
-    let source_rows = unsafe { crate::foreign::reference(source_rows) };
-    let source = unsafe { crate::foreign::slice(source, source_length) };
+    let Some(rows) = (unsafe { crate::foreign::reference(rows) }) else {
+        return crate::foreign::POINTER_OF_V_FRAME_C;
+    };
+    let Some(buffer) = (unsafe { crate::foreign::slice_mut(buffer, buffer_length) }) else {
+        return crate::foreign::POINTER_OF_V_FRAME_C;
+    };
+    let Some(source_rows) = (unsafe { crate::foreign::reference(source_rows) }) else {
+        return crate::foreign::POINTER_OF_V_FRAME_C;
+    };
+    let Some(source) = (unsafe { crate::foreign::slice(source, source_length) }) else {
+        return crate::foreign::POINTER_OF_V_FRAME_C;
+    };
     change::copy(rows, buffer, source_rows, source)
 }
 
-/// Copies the picture of the second rows into the first ones.
+/// Copies the picture of the source rows to the rows of the buffer, which have its size.
 ///
 /// # Safety
 ///
@@ -67,15 +83,23 @@ pub unsafe extern "C" fn v_frame_copy_u16(
     source: *const u16,
     source_length: usize,
 ) -> u32 {
-    let rows = unsafe { crate::foreign::reference(rows) };
-    let buffer = unsafe { crate::foreign::slice_mut(buffer, buffer_length) };
-    let source_rows = unsafe { crate::foreign::reference(source_rows) };
-    let source = unsafe { crate::foreign::slice(source, source_length) };
+    let Some(rows) = (unsafe { crate::foreign::reference(rows) }) else {
+        return crate::foreign::POINTER_OF_V_FRAME_C;
+    };
+    let Some(buffer) = (unsafe { crate::foreign::slice_mut(buffer, buffer_length) }) else {
+        return crate::foreign::POINTER_OF_V_FRAME_C;
+    };
+    let Some(source_rows) = (unsafe { crate::foreign::reference(source_rows) }) else {
+        return crate::foreign::POINTER_OF_V_FRAME_C;
+    };
+    let Some(source) = (unsafe { crate::foreign::slice(source, source_length) }) else {
+        return crate::foreign::POINTER_OF_V_FRAME_C;
+    };
     change::copy(rows, buffer, source_rows, source)
 }
 
-/// Makes the first rows show the picture of the second ones in half the size: each pixel is the mean of a block of two by two,
-/// rounded to the nearest value and upwards at a half.
+/// Writes the picture of the source rows in half its size: each pixel is the mean of a block of two by two, rounded to the
+/// nearest value, and upwards at a half.
 ///
 /// # Safety
 ///
@@ -90,15 +114,23 @@ pub unsafe extern "C" fn v_frame_downscale_u8(
     source: *const u8,
     source_length: usize,
 ) -> u32 {
-    let rows = unsafe { crate::foreign::reference(rows) };
-    let buffer = unsafe { crate::foreign::slice_mut(buffer, buffer_length) };
-    let source_rows = unsafe { crate::foreign::reference(source_rows) };
-    let source = unsafe { crate::foreign::slice(source, source_length) };
+    let Some(rows) = (unsafe { crate::foreign::reference(rows) }) else {
+        return crate::foreign::POINTER_OF_V_FRAME_C;
+    };
+    let Some(buffer) = (unsafe { crate::foreign::slice_mut(buffer, buffer_length) }) else {
+        return crate::foreign::POINTER_OF_V_FRAME_C;
+    };
+    let Some(source_rows) = (unsafe { crate::foreign::reference(source_rows) }) else {
+        return crate::foreign::POINTER_OF_V_FRAME_C;
+    };
+    let Some(source) = (unsafe { crate::foreign::slice(source, source_length) }) else {
+        return crate::foreign::POINTER_OF_V_FRAME_C;
+    };
     change::downscale(rows, buffer, source_rows, source)
 }
 
-/// Makes the first rows show the picture of the second ones in half the size: each pixel is the mean of a block of two by two,
-/// rounded to the nearest value and upwards at a half.
+/// Writes the picture of the source rows in half its size: each pixel is the mean of a block of two by two, rounded to the
+/// nearest value, and upwards at a half.
 ///
 /// # Safety
 ///
@@ -113,14 +145,22 @@ pub unsafe extern "C" fn v_frame_downscale_u16(
     source: *const u16,
     source_length: usize,
 ) -> u32 {
-    let rows = unsafe { crate::foreign::reference(rows) };
-    let buffer = unsafe { crate::foreign::slice_mut(buffer, buffer_length) };
-    let source_rows = unsafe { crate::foreign::reference(source_rows) };
-    let source = unsafe { crate::foreign::slice(source, source_length) };
+    let Some(rows) = (unsafe { crate::foreign::reference(rows) }) else {
+        return crate::foreign::POINTER_OF_V_FRAME_C;
+    };
+    let Some(buffer) = (unsafe { crate::foreign::slice_mut(buffer, buffer_length) }) else {
+        return crate::foreign::POINTER_OF_V_FRAME_C;
+    };
+    let Some(source_rows) = (unsafe { crate::foreign::reference(source_rows) }) else {
+        return crate::foreign::POINTER_OF_V_FRAME_C;
+    };
+    let Some(source) = (unsafe { crate::foreign::slice(source, source_length) }) else {
+        return crate::foreign::POINTER_OF_V_FRAME_C;
+    };
     change::downscale(rows, buffer, source_rows, source)
 }
 
-/// Makes each entry of the border the pixel nearest to it. What lies inside it stays, and so does all after it.
+/// Sets each entry of the border to the nearest pixel. The picture inside of it and all entries after it are unchanged.
 ///
 /// # Safety
 ///
@@ -128,12 +168,16 @@ pub unsafe extern "C" fn v_frame_downscale_u16(
 #[allow(unsafe_code)]
 #[unsafe(no_mangle)]
 pub unsafe extern "C" fn v_frame_pad_u8(layout: *const Bordered, buffer: *mut u8, buffer_length: usize) -> u32 {
-    let layout = unsafe { crate::foreign::reference(layout) };
-    let buffer = unsafe { crate::foreign::slice_mut(buffer, buffer_length) };
+    let Some(layout) = (unsafe { crate::foreign::reference(layout) }) else {
+        return crate::foreign::POINTER_OF_V_FRAME_C;
+    };
+    let Some(buffer) = (unsafe { crate::foreign::slice_mut(buffer, buffer_length) }) else {
+        return crate::foreign::POINTER_OF_V_FRAME_C;
+    };
     change::pad(layout, buffer)
 }
 
-/// Makes each entry of the border the pixel nearest to it. What lies inside it stays, and so does all after it.
+/// Sets each entry of the border to the nearest pixel. The picture inside of it and all entries after it are unchanged.
 ///
 /// # Safety
 ///
@@ -141,12 +185,16 @@ pub unsafe extern "C" fn v_frame_pad_u8(layout: *const Bordered, buffer: *mut u8
 #[allow(unsafe_code)]
 #[unsafe(no_mangle)]
 pub unsafe extern "C" fn v_frame_pad_u16(layout: *const Bordered, buffer: *mut u16, buffer_length: usize) -> u32 {
-    let layout = unsafe { crate::foreign::reference(layout) };
-    let buffer = unsafe { crate::foreign::slice_mut(buffer, buffer_length) };
+    let Some(layout) = (unsafe { crate::foreign::reference(layout) }) else {
+        return crate::foreign::POINTER_OF_V_FRAME_C;
+    };
+    let Some(buffer) = (unsafe { crate::foreign::slice_mut(buffer, buffer_length) }) else {
+        return crate::foreign::POINTER_OF_V_FRAME_C;
+    };
     change::pad(layout, buffer)
 }
 
-/// Decodes rows of bytes, the low byte of each pixel first, into rows of pixels. The rows of the source count bytes.
+/// Decodes rows of little-endian bytes to rows of pixels. The rows of the source count bytes.
 ///
 /// # Safety
 ///
@@ -161,14 +209,22 @@ pub unsafe extern "C" fn v_frame_decode_u16(
     source: *const u8,
     source_length: usize,
 ) -> u32 {
-    let rows = unsafe { crate::foreign::reference(rows) };
-    let buffer = unsafe { crate::foreign::slice_mut(buffer, buffer_length) };
-    let source_rows = unsafe { crate::foreign::reference(source_rows) };
-    let source = unsafe { crate::foreign::slice(source, source_length) };
+    let Some(rows) = (unsafe { crate::foreign::reference(rows) }) else {
+        return crate::foreign::POINTER_OF_V_FRAME_C;
+    };
+    let Some(buffer) = (unsafe { crate::foreign::slice_mut(buffer, buffer_length) }) else {
+        return crate::foreign::POINTER_OF_V_FRAME_C;
+    };
+    let Some(source_rows) = (unsafe { crate::foreign::reference(source_rows) }) else {
+        return crate::foreign::POINTER_OF_V_FRAME_C;
+    };
+    let Some(source) = (unsafe { crate::foreign::slice(source, source_length) }) else {
+        return crate::foreign::POINTER_OF_V_FRAME_C;
+    };
     change::decode(rows, buffer, source_rows, source)
 }
 
-/// Encodes rows of pixels into rows of bytes, the low byte of each pixel first. The rows of the buffer count bytes.
+/// Encodes rows of pixels as rows of little-endian bytes. The rows of the buffer count bytes.
 ///
 /// # Safety
 ///
@@ -183,9 +239,17 @@ pub unsafe extern "C" fn v_frame_encode_u16(
     source: *const u16,
     source_length: usize,
 ) -> u32 {
-    let rows = unsafe { crate::foreign::reference(rows) };
-    let buffer = unsafe { crate::foreign::slice_mut(buffer, buffer_length) };
-    let source_rows = unsafe { crate::foreign::reference(source_rows) };
-    let source = unsafe { crate::foreign::slice(source, source_length) };
+    let Some(rows) = (unsafe { crate::foreign::reference(rows) }) else {
+        return crate::foreign::POINTER_OF_V_FRAME_C;
+    };
+    let Some(buffer) = (unsafe { crate::foreign::slice_mut(buffer, buffer_length) }) else {
+        return crate::foreign::POINTER_OF_V_FRAME_C;
+    };
+    let Some(source_rows) = (unsafe { crate::foreign::reference(source_rows) }) else {
+        return crate::foreign::POINTER_OF_V_FRAME_C;
+    };
+    let Some(source) = (unsafe { crate::foreign::slice(source, source_length) }) else {
+        return crate::foreign::POINTER_OF_V_FRAME_C;
+    };
     change::encode(rows, buffer, source_rows, source)
 }

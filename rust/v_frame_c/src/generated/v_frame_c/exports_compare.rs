@@ -20,11 +20,21 @@ pub unsafe extern "C" fn v_frame_squared_errors_u8(
     b_length: usize,
     sum: *mut Sum,
 ) -> u32 {
-    let a_rows = unsafe { crate::foreign::reference(a_rows) };
-    let a = unsafe { crate::foreign::slice(a, a_length) };
-    let b_rows = unsafe { crate::foreign::reference(b_rows) };
-    let b = unsafe { crate::foreign::slice(b, b_length) };
-    let sum = unsafe { crate::foreign::reference_mut(sum) };
+    let Some(a_rows) = (unsafe { crate::foreign::reference(a_rows) }) else {
+        return crate::foreign::POINTER_OF_V_FRAME_C;
+    };
+    let Some(a) = (unsafe { crate::foreign::slice(a, a_length) }) else {
+        return crate::foreign::POINTER_OF_V_FRAME_C;
+    };
+    let Some(b_rows) = (unsafe { crate::foreign::reference(b_rows) }) else {
+        return crate::foreign::POINTER_OF_V_FRAME_C;
+    };
+    let Some(b) = (unsafe { crate::foreign::slice(b, b_length) }) else {
+        return crate::foreign::POINTER_OF_V_FRAME_C;
+    };
+    let Some(sum) = (unsafe { crate::foreign::reference_mut(sum) }) else {
+        return crate::foreign::POINTER_OF_V_FRAME_C;
+    };
     compare::squared_errors(a_rows, a, b_rows, b, sum)
 }
 
@@ -44,11 +54,21 @@ pub unsafe extern "C" fn v_frame_squared_errors_u16(
     b_length: usize,
     sum: *mut Sum,
 ) -> u32 {
-    let a_rows = unsafe { crate::foreign::reference(a_rows) };
-    let a = unsafe { crate::foreign::slice(a, a_length) };
-    let b_rows = unsafe { crate::foreign::reference(b_rows) };
-    let b = unsafe { crate::foreign::slice(b, b_length) };
-    let sum = unsafe { crate::foreign::reference_mut(sum) };
+    let Some(a_rows) = (unsafe { crate::foreign::reference(a_rows) }) else {
+        return crate::foreign::POINTER_OF_V_FRAME_C;
+    };
+    let Some(a) = (unsafe { crate::foreign::slice(a, a_length) }) else {
+        return crate::foreign::POINTER_OF_V_FRAME_C;
+    };
+    let Some(b_rows) = (unsafe { crate::foreign::reference(b_rows) }) else {
+        return crate::foreign::POINTER_OF_V_FRAME_C;
+    };
+    let Some(b) = (unsafe { crate::foreign::slice(b, b_length) }) else {
+        return crate::foreign::POINTER_OF_V_FRAME_C;
+    };
+    let Some(sum) = (unsafe { crate::foreign::reference_mut(sum) }) else {
+        return crate::foreign::POINTER_OF_V_FRAME_C;
+    };
     compare::squared_errors(a_rows, a, b_rows, b, sum)
 }
 
@@ -68,11 +88,21 @@ pub unsafe extern "C" fn v_frame_absolute_differences_u8(
     b_length: usize,
     sum: *mut Sum,
 ) -> u32 {
-    let a_rows = unsafe { crate::foreign::reference(a_rows) };
-    let a = unsafe { crate::foreign::slice(a, a_length) };
-    let b_rows = unsafe { crate::foreign::reference(b_rows) };
-    let b = unsafe { crate::foreign::slice(b, b_length) };
-    let sum = unsafe { crate::foreign::reference_mut(sum) };
+    let Some(a_rows) = (unsafe { crate::foreign::reference(a_rows) }) else {
+        return crate::foreign::POINTER_OF_V_FRAME_C;
+    };
+    let Some(a) = (unsafe { crate::foreign::slice(a, a_length) }) else {
+        return crate::foreign::POINTER_OF_V_FRAME_C;
+    };
+    let Some(b_rows) = (unsafe { crate::foreign::reference(b_rows) }) else {
+        return crate::foreign::POINTER_OF_V_FRAME_C;
+    };
+    let Some(b) = (unsafe { crate::foreign::slice(b, b_length) }) else {
+        return crate::foreign::POINTER_OF_V_FRAME_C;
+    };
+    let Some(sum) = (unsafe { crate::foreign::reference_mut(sum) }) else {
+        return crate::foreign::POINTER_OF_V_FRAME_C;
+    };
     compare::absolute_differences(a_rows, a, b_rows, b, sum)
 }
 
@@ -92,15 +122,25 @@ pub unsafe extern "C" fn v_frame_absolute_differences_u16(
     b_length: usize,
     sum: *mut Sum,
 ) -> u32 {
-    let a_rows = unsafe { crate::foreign::reference(a_rows) };
-    let a = unsafe { crate::foreign::slice(a, a_length) };
-    let b_rows = unsafe { crate::foreign::reference(b_rows) };
-    let b = unsafe { crate::foreign::slice(b, b_length) };
-    let sum = unsafe { crate::foreign::reference_mut(sum) };
+    let Some(a_rows) = (unsafe { crate::foreign::reference(a_rows) }) else {
+        return crate::foreign::POINTER_OF_V_FRAME_C;
+    };
+    let Some(a) = (unsafe { crate::foreign::slice(a, a_length) }) else {
+        return crate::foreign::POINTER_OF_V_FRAME_C;
+    };
+    let Some(b_rows) = (unsafe { crate::foreign::reference(b_rows) }) else {
+        return crate::foreign::POINTER_OF_V_FRAME_C;
+    };
+    let Some(b) = (unsafe { crate::foreign::slice(b, b_length) }) else {
+        return crate::foreign::POINTER_OF_V_FRAME_C;
+    };
+    let Some(sum) = (unsafe { crate::foreign::reference_mut(sum) }) else {
+        return crate::foreign::POINTER_OF_V_FRAME_C;
+    };
     compare::absolute_differences(a_rows, a, b_rows, b, sum)
 }
 
-/// Finds the first pixel, row after row, that differs in two pictures of one size.
+/// Finds the first pixel, row after row from the top, that differs in two pictures of one size.
 ///
 /// # Safety
 ///
@@ -116,15 +156,25 @@ pub unsafe extern "C" fn v_frame_first_difference_u8(
     b_length: usize,
     place: *mut Place,
 ) -> u32 {
-    let a_rows = unsafe { crate::foreign::reference(a_rows) };
-    let a = unsafe { crate::foreign::slice(a, a_length) };
-    let b_rows = unsafe { crate::foreign::reference(b_rows) };
-    let b = unsafe { crate::foreign::slice(b, b_length) };
-    let place = unsafe { crate::foreign::reference_mut(place) };
+    let Some(a_rows) = (unsafe { crate::foreign::reference(a_rows) }) else {
+        return crate::foreign::POINTER_OF_V_FRAME_C;
+    };
+    let Some(a) = (unsafe { crate::foreign::slice(a, a_length) }) else {
+        return crate::foreign::POINTER_OF_V_FRAME_C;
+    };
+    let Some(b_rows) = (unsafe { crate::foreign::reference(b_rows) }) else {
+        return crate::foreign::POINTER_OF_V_FRAME_C;
+    };
+    let Some(b) = (unsafe { crate::foreign::slice(b, b_length) }) else {
+        return crate::foreign::POINTER_OF_V_FRAME_C;
+    };
+    let Some(place) = (unsafe { crate::foreign::reference_mut(place) }) else {
+        return crate::foreign::POINTER_OF_V_FRAME_C;
+    };
     compare::first_difference(a_rows, a, b_rows, b, place)
 }
 
-/// Finds the first pixel, row after row, that differs in two pictures of one size.
+/// Finds the first pixel, row after row from the top, that differs in two pictures of one size.
 ///
 /// # Safety
 ///
@@ -140,10 +190,20 @@ pub unsafe extern "C" fn v_frame_first_difference_u16(
     b_length: usize,
     place: *mut Place,
 ) -> u32 {
-    let a_rows = unsafe { crate::foreign::reference(a_rows) };
-    let a = unsafe { crate::foreign::slice(a, a_length) };
-    let b_rows = unsafe { crate::foreign::reference(b_rows) };
-    let b = unsafe { crate::foreign::slice(b, b_length) };
-    let place = unsafe { crate::foreign::reference_mut(place) };
+    let Some(a_rows) = (unsafe { crate::foreign::reference(a_rows) }) else {
+        return crate::foreign::POINTER_OF_V_FRAME_C;
+    };
+    let Some(a) = (unsafe { crate::foreign::slice(a, a_length) }) else {
+        return crate::foreign::POINTER_OF_V_FRAME_C;
+    };
+    let Some(b_rows) = (unsafe { crate::foreign::reference(b_rows) }) else {
+        return crate::foreign::POINTER_OF_V_FRAME_C;
+    };
+    let Some(b) = (unsafe { crate::foreign::slice(b, b_length) }) else {
+        return crate::foreign::POINTER_OF_V_FRAME_C;
+    };
+    let Some(place) = (unsafe { crate::foreign::reference_mut(place) }) else {
+        return crate::foreign::POINTER_OF_V_FRAME_C;
+    };
     compare::first_difference(a_rows, a, b_rows, b, place)
 }

@@ -4,7 +4,8 @@
 use crate::generated::v_frame_slices::compose;
 use crate::generated::v_frame_slices::layout::Rows;
 
-/// Blends the picture of the second rows over that of the first ones: so many of 256 parts of each pixel are the second's.
+/// Blends the picture of the source rows over the picture of the buffer. The weight is the part of the source in each pixel, in
+/// 256ths.
 ///
 /// # Safety
 ///
@@ -20,14 +21,23 @@ pub unsafe extern "C" fn v_frame_blend_u8(
     source_length: usize,
     weight: u16,
 ) -> u32 {
-    let rows = unsafe { crate::foreign::reference(rows) };
-    let buffer = unsafe { crate::foreign::slice_mut(buffer, buffer_length) };
-    let source_rows = unsafe { crate::foreign::reference(source_rows) };
-    let source = unsafe { crate::foreign::slice(source, source_length) };
+    let Some(rows) = (unsafe { crate::foreign::reference(rows) }) else {
+        return crate::foreign::POINTER_OF_V_FRAME_C;
+    };
+    let Some(buffer) = (unsafe { crate::foreign::slice_mut(buffer, buffer_length) }) else {
+        return crate::foreign::POINTER_OF_V_FRAME_C;
+    };
+    let Some(source_rows) = (unsafe { crate::foreign::reference(source_rows) }) else {
+        return crate::foreign::POINTER_OF_V_FRAME_C;
+    };
+    let Some(source) = (unsafe { crate::foreign::slice(source, source_length) }) else {
+        return crate::foreign::POINTER_OF_V_FRAME_C;
+    };
     compose::blend(rows, buffer, source_rows, source, weight)
 }
 
-/// Blends the picture of the second rows over that of the first ones: so many of 256 parts of each pixel are the second's.
+/// Blends the picture of the source rows over the picture of the buffer. The weight is the part of the source in each pixel, in
+/// 256ths.
 ///
 /// # Safety
 ///
@@ -43,14 +53,23 @@ pub unsafe extern "C" fn v_frame_blend_u16(
     source_length: usize,
     weight: u16,
 ) -> u32 {
-    let rows = unsafe { crate::foreign::reference(rows) };
-    let buffer = unsafe { crate::foreign::slice_mut(buffer, buffer_length) };
-    let source_rows = unsafe { crate::foreign::reference(source_rows) };
-    let source = unsafe { crate::foreign::slice(source, source_length) };
+    let Some(rows) = (unsafe { crate::foreign::reference(rows) }) else {
+        return crate::foreign::POINTER_OF_V_FRAME_C;
+    };
+    let Some(buffer) = (unsafe { crate::foreign::slice_mut(buffer, buffer_length) }) else {
+        return crate::foreign::POINTER_OF_V_FRAME_C;
+    };
+    let Some(source_rows) = (unsafe { crate::foreign::reference(source_rows) }) else {
+        return crate::foreign::POINTER_OF_V_FRAME_C;
+    };
+    let Some(source) = (unsafe { crate::foreign::slice(source, source_length) }) else {
+        return crate::foreign::POINTER_OF_V_FRAME_C;
+    };
     compose::blend(rows, buffer, source_rows, source, weight)
 }
 
-/// Does the same where a third picture says of each pixel how many of 255 parts are the second's.
+/// Blends the picture of the source rows over the picture of the buffer by a mask, whose pixels are the parts of the source, in
+/// 255ths.
 ///
 /// # Safety
 ///
@@ -68,16 +87,29 @@ pub unsafe extern "C" fn v_frame_blend_with_mask_u8(
     mask: *const u8,
     mask_length: usize,
 ) -> u32 {
-    let rows = unsafe { crate::foreign::reference(rows) };
-    let buffer = unsafe { crate::foreign::slice_mut(buffer, buffer_length) };
-    let source_rows = unsafe { crate::foreign::reference(source_rows) };
-    let source = unsafe { crate::foreign::slice(source, source_length) };
-    let mask_rows = unsafe { crate::foreign::reference(mask_rows) };
-    let mask = unsafe { crate::foreign::slice(mask, mask_length) };
+    let Some(rows) = (unsafe { crate::foreign::reference(rows) }) else {
+        return crate::foreign::POINTER_OF_V_FRAME_C;
+    };
+    let Some(buffer) = (unsafe { crate::foreign::slice_mut(buffer, buffer_length) }) else {
+        return crate::foreign::POINTER_OF_V_FRAME_C;
+    };
+    let Some(source_rows) = (unsafe { crate::foreign::reference(source_rows) }) else {
+        return crate::foreign::POINTER_OF_V_FRAME_C;
+    };
+    let Some(source) = (unsafe { crate::foreign::slice(source, source_length) }) else {
+        return crate::foreign::POINTER_OF_V_FRAME_C;
+    };
+    let Some(mask_rows) = (unsafe { crate::foreign::reference(mask_rows) }) else {
+        return crate::foreign::POINTER_OF_V_FRAME_C;
+    };
+    let Some(mask) = (unsafe { crate::foreign::slice(mask, mask_length) }) else {
+        return crate::foreign::POINTER_OF_V_FRAME_C;
+    };
     compose::blend_with_mask(rows, buffer, source_rows, source, mask_rows, mask)
 }
 
-/// Does the same where a third picture says of each pixel how many of 255 parts are the second's.
+/// Blends the picture of the source rows over the picture of the buffer by a mask, whose pixels are the parts of the source, in
+/// 255ths.
 ///
 /// # Safety
 ///
@@ -95,16 +127,29 @@ pub unsafe extern "C" fn v_frame_blend_with_mask_u16(
     mask: *const u8,
     mask_length: usize,
 ) -> u32 {
-    let rows = unsafe { crate::foreign::reference(rows) };
-    let buffer = unsafe { crate::foreign::slice_mut(buffer, buffer_length) };
-    let source_rows = unsafe { crate::foreign::reference(source_rows) };
-    let source = unsafe { crate::foreign::slice(source, source_length) };
-    let mask_rows = unsafe { crate::foreign::reference(mask_rows) };
-    let mask = unsafe { crate::foreign::slice(mask, mask_length) };
+    let Some(rows) = (unsafe { crate::foreign::reference(rows) }) else {
+        return crate::foreign::POINTER_OF_V_FRAME_C;
+    };
+    let Some(buffer) = (unsafe { crate::foreign::slice_mut(buffer, buffer_length) }) else {
+        return crate::foreign::POINTER_OF_V_FRAME_C;
+    };
+    let Some(source_rows) = (unsafe { crate::foreign::reference(source_rows) }) else {
+        return crate::foreign::POINTER_OF_V_FRAME_C;
+    };
+    let Some(source) = (unsafe { crate::foreign::slice(source, source_length) }) else {
+        return crate::foreign::POINTER_OF_V_FRAME_C;
+    };
+    let Some(mask_rows) = (unsafe { crate::foreign::reference(mask_rows) }) else {
+        return crate::foreign::POINTER_OF_V_FRAME_C;
+    };
+    let Some(mask) = (unsafe { crate::foreign::slice(mask, mask_length) }) else {
+        return crate::foreign::POINTER_OF_V_FRAME_C;
+    };
     compose::blend_with_mask(rows, buffer, source_rows, source, mask_rows, mask)
 }
 
-/// Makes each pixel of the first rows how far it lies from that of the second, times a gain, and at most the largest value.
+/// Replaces each pixel of the buffer by its absolute difference from the pixel of the source, times a gain, but at most by the
+/// largest value of the bit depth.
 ///
 /// # Safety
 ///
@@ -121,14 +166,23 @@ pub unsafe extern "C" fn v_frame_difference_u8(
     gain: u16,
     depth: u32,
 ) -> u32 {
-    let rows = unsafe { crate::foreign::reference(rows) };
-    let buffer = unsafe { crate::foreign::slice_mut(buffer, buffer_length) };
-    let source_rows = unsafe { crate::foreign::reference(source_rows) };
-    let source = unsafe { crate::foreign::slice(source, source_length) };
+    let Some(rows) = (unsafe { crate::foreign::reference(rows) }) else {
+        return crate::foreign::POINTER_OF_V_FRAME_C;
+    };
+    let Some(buffer) = (unsafe { crate::foreign::slice_mut(buffer, buffer_length) }) else {
+        return crate::foreign::POINTER_OF_V_FRAME_C;
+    };
+    let Some(source_rows) = (unsafe { crate::foreign::reference(source_rows) }) else {
+        return crate::foreign::POINTER_OF_V_FRAME_C;
+    };
+    let Some(source) = (unsafe { crate::foreign::slice(source, source_length) }) else {
+        return crate::foreign::POINTER_OF_V_FRAME_C;
+    };
     compose::difference(rows, buffer, source_rows, source, gain, depth)
 }
 
-/// Makes each pixel of the first rows how far it lies from that of the second, times a gain, and at most the largest value.
+/// Replaces each pixel of the buffer by its absolute difference from the pixel of the source, times a gain, but at most by the
+/// largest value of the bit depth.
 ///
 /// # Safety
 ///
@@ -145,9 +199,17 @@ pub unsafe extern "C" fn v_frame_difference_u16(
     gain: u16,
     depth: u32,
 ) -> u32 {
-    let rows = unsafe { crate::foreign::reference(rows) };
-    let buffer = unsafe { crate::foreign::slice_mut(buffer, buffer_length) };
-    let source_rows = unsafe { crate::foreign::reference(source_rows) };
-    let source = unsafe { crate::foreign::slice(source, source_length) };
+    let Some(rows) = (unsafe { crate::foreign::reference(rows) }) else {
+        return crate::foreign::POINTER_OF_V_FRAME_C;
+    };
+    let Some(buffer) = (unsafe { crate::foreign::slice_mut(buffer, buffer_length) }) else {
+        return crate::foreign::POINTER_OF_V_FRAME_C;
+    };
+    let Some(source_rows) = (unsafe { crate::foreign::reference(source_rows) }) else {
+        return crate::foreign::POINTER_OF_V_FRAME_C;
+    };
+    let Some(source) = (unsafe { crate::foreign::slice(source, source_length) }) else {
+        return crate::foreign::POINTER_OF_V_FRAME_C;
+    };
     compose::difference(rows, buffer, source_rows, source, gain, depth)
 }

@@ -4,7 +4,7 @@
 use crate::generated::v_frame_slices::convert;
 use crate::generated::v_frame_slices::layout::Rows;
 
-/// Makes the first rows show the picture of the second ones, whose values have bit depth `from`, in bit depth `to`.
+/// Converts the picture of the source rows from the bit depth `from` to the bit depth `to`.
 ///
 /// # Safety
 ///
@@ -21,14 +21,22 @@ pub unsafe extern "C" fn v_frame_convert_depth_u8_u16(
     from: u32,
     to: u32,
 ) -> u32 {
-    let rows = unsafe { crate::foreign::reference(rows) };
-    let buffer = unsafe { crate::foreign::slice_mut(buffer, buffer_length) };
-    let source_rows = unsafe { crate::foreign::reference(source_rows) };
-    let source = unsafe { crate::foreign::slice(source, source_length) };
+    let Some(rows) = (unsafe { crate::foreign::reference(rows) }) else {
+        return crate::foreign::POINTER_OF_V_FRAME_C;
+    };
+    let Some(buffer) = (unsafe { crate::foreign::slice_mut(buffer, buffer_length) }) else {
+        return crate::foreign::POINTER_OF_V_FRAME_C;
+    };
+    let Some(source_rows) = (unsafe { crate::foreign::reference(source_rows) }) else {
+        return crate::foreign::POINTER_OF_V_FRAME_C;
+    };
+    let Some(source) = (unsafe { crate::foreign::slice(source, source_length) }) else {
+        return crate::foreign::POINTER_OF_V_FRAME_C;
+    };
     convert::convert_depth(rows, buffer, source_rows, source, from, to)
 }
 
-/// Makes the first rows show the picture of the second ones, whose values have bit depth `from`, in bit depth `to`.
+/// Converts the picture of the source rows from the bit depth `from` to the bit depth `to`.
 ///
 /// # Safety
 ///
@@ -45,14 +53,22 @@ pub unsafe extern "C" fn v_frame_convert_depth_u16_u8(
     from: u32,
     to: u32,
 ) -> u32 {
-    let rows = unsafe { crate::foreign::reference(rows) };
-    let buffer = unsafe { crate::foreign::slice_mut(buffer, buffer_length) };
-    let source_rows = unsafe { crate::foreign::reference(source_rows) };
-    let source = unsafe { crate::foreign::slice(source, source_length) };
+    let Some(rows) = (unsafe { crate::foreign::reference(rows) }) else {
+        return crate::foreign::POINTER_OF_V_FRAME_C;
+    };
+    let Some(buffer) = (unsafe { crate::foreign::slice_mut(buffer, buffer_length) }) else {
+        return crate::foreign::POINTER_OF_V_FRAME_C;
+    };
+    let Some(source_rows) = (unsafe { crate::foreign::reference(source_rows) }) else {
+        return crate::foreign::POINTER_OF_V_FRAME_C;
+    };
+    let Some(source) = (unsafe { crate::foreign::slice(source, source_length) }) else {
+        return crate::foreign::POINTER_OF_V_FRAME_C;
+    };
     convert::convert_depth(rows, buffer, source_rows, source, from, to)
 }
 
-/// Makes the first rows show the picture of the second ones, whose values have bit depth `from`, in bit depth `to`.
+/// Converts the picture of the source rows from the bit depth `from` to the bit depth `to`.
 ///
 /// # Safety
 ///
@@ -69,14 +85,22 @@ pub unsafe extern "C" fn v_frame_convert_depth_u16_u16(
     from: u32,
     to: u32,
 ) -> u32 {
-    let rows = unsafe { crate::foreign::reference(rows) };
-    let buffer = unsafe { crate::foreign::slice_mut(buffer, buffer_length) };
-    let source_rows = unsafe { crate::foreign::reference(source_rows) };
-    let source = unsafe { crate::foreign::slice(source, source_length) };
+    let Some(rows) = (unsafe { crate::foreign::reference(rows) }) else {
+        return crate::foreign::POINTER_OF_V_FRAME_C;
+    };
+    let Some(buffer) = (unsafe { crate::foreign::slice_mut(buffer, buffer_length) }) else {
+        return crate::foreign::POINTER_OF_V_FRAME_C;
+    };
+    let Some(source_rows) = (unsafe { crate::foreign::reference(source_rows) }) else {
+        return crate::foreign::POINTER_OF_V_FRAME_C;
+    };
+    let Some(source) = (unsafe { crate::foreign::slice(source, source_length) }) else {
+        return crate::foreign::POINTER_OF_V_FRAME_C;
+    };
     convert::convert_depth(rows, buffer, source_rows, source, from, to)
 }
 
-/// Makes the first rows show the picture of the second ones, with each pixel `ratio_x` times across and `ratio_y` times down.
+/// Writes the picture of the source rows with each pixel repeated `ratio_x` times across and `ratio_y` times down.
 ///
 /// # Safety
 ///
@@ -93,14 +117,22 @@ pub unsafe extern "C" fn v_frame_upscale_u8(
     ratio_x: usize,
     ratio_y: usize,
 ) -> u32 {
-    let rows = unsafe { crate::foreign::reference(rows) };
-    let buffer = unsafe { crate::foreign::slice_mut(buffer, buffer_length) };
-    let source_rows = unsafe { crate::foreign::reference(source_rows) };
-    let source = unsafe { crate::foreign::slice(source, source_length) };
+    let Some(rows) = (unsafe { crate::foreign::reference(rows) }) else {
+        return crate::foreign::POINTER_OF_V_FRAME_C;
+    };
+    let Some(buffer) = (unsafe { crate::foreign::slice_mut(buffer, buffer_length) }) else {
+        return crate::foreign::POINTER_OF_V_FRAME_C;
+    };
+    let Some(source_rows) = (unsafe { crate::foreign::reference(source_rows) }) else {
+        return crate::foreign::POINTER_OF_V_FRAME_C;
+    };
+    let Some(source) = (unsafe { crate::foreign::slice(source, source_length) }) else {
+        return crate::foreign::POINTER_OF_V_FRAME_C;
+    };
     convert::upscale(rows, buffer, source_rows, source, ratio_x, ratio_y)
 }
 
-/// Makes the first rows show the picture of the second ones, with each pixel `ratio_x` times across and `ratio_y` times down.
+/// Writes the picture of the source rows with each pixel repeated `ratio_x` times across and `ratio_y` times down.
 ///
 /// # Safety
 ///
@@ -117,9 +149,17 @@ pub unsafe extern "C" fn v_frame_upscale_u16(
     ratio_x: usize,
     ratio_y: usize,
 ) -> u32 {
-    let rows = unsafe { crate::foreign::reference(rows) };
-    let buffer = unsafe { crate::foreign::slice_mut(buffer, buffer_length) };
-    let source_rows = unsafe { crate::foreign::reference(source_rows) };
-    let source = unsafe { crate::foreign::slice(source, source_length) };
+    let Some(rows) = (unsafe { crate::foreign::reference(rows) }) else {
+        return crate::foreign::POINTER_OF_V_FRAME_C;
+    };
+    let Some(buffer) = (unsafe { crate::foreign::slice_mut(buffer, buffer_length) }) else {
+        return crate::foreign::POINTER_OF_V_FRAME_C;
+    };
+    let Some(source_rows) = (unsafe { crate::foreign::reference(source_rows) }) else {
+        return crate::foreign::POINTER_OF_V_FRAME_C;
+    };
+    let Some(source) = (unsafe { crate::foreign::slice(source, source_length) }) else {
+        return crate::foreign::POINTER_OF_V_FRAME_C;
+    };
     convert::upscale(rows, buffer, source_rows, source, ratio_x, ratio_y)
 }

@@ -19,9 +19,15 @@ pub unsafe extern "C" fn v_frame_count_between_u8(
     greatest: u8,
     count: *mut u64,
 ) -> u32 {
-    let rows = unsafe { crate::foreign::reference(rows) };
-    let buffer = unsafe { crate::foreign::slice(buffer, buffer_length) };
-    let count = unsafe { crate::foreign::reference_mut(count) };
+    let Some(rows) = (unsafe { crate::foreign::reference(rows) }) else {
+        return crate::foreign::POINTER_OF_V_FRAME_C;
+    };
+    let Some(buffer) = (unsafe { crate::foreign::slice(buffer, buffer_length) }) else {
+        return crate::foreign::POINTER_OF_V_FRAME_C;
+    };
+    let Some(count) = (unsafe { crate::foreign::reference_mut(count) }) else {
+        return crate::foreign::POINTER_OF_V_FRAME_C;
+    };
     counts::between(rows, buffer, least, greatest, count)
 }
 
@@ -40,13 +46,19 @@ pub unsafe extern "C" fn v_frame_count_between_u16(
     greatest: u16,
     count: *mut u64,
 ) -> u32 {
-    let rows = unsafe { crate::foreign::reference(rows) };
-    let buffer = unsafe { crate::foreign::slice(buffer, buffer_length) };
-    let count = unsafe { crate::foreign::reference_mut(count) };
+    let Some(rows) = (unsafe { crate::foreign::reference(rows) }) else {
+        return crate::foreign::POINTER_OF_V_FRAME_C;
+    };
+    let Some(buffer) = (unsafe { crate::foreign::slice(buffer, buffer_length) }) else {
+        return crate::foreign::POINTER_OF_V_FRAME_C;
+    };
+    let Some(count) = (unsafe { crate::foreign::reference_mut(count) }) else {
+        return crate::foreign::POINTER_OF_V_FRAME_C;
+    };
     counts::between(rows, buffer, least, greatest, count)
 }
 
-/// Makes entry `v` of `counts` how many pixels have the value `v`.
+/// Sets entry `v` of `counts` to the number of pixels with the value `v`.
 ///
 /// # Safety
 ///
@@ -54,13 +66,19 @@ pub unsafe extern "C" fn v_frame_count_between_u16(
 #[allow(unsafe_code)]
 #[unsafe(no_mangle)]
 pub unsafe extern "C" fn v_frame_histogram_u8(rows: *const Rows, buffer: *const u8, buffer_length: usize, counts: *mut u64, counts_length: usize) -> u32 {
-    let rows = unsafe { crate::foreign::reference(rows) };
-    let buffer = unsafe { crate::foreign::slice(buffer, buffer_length) };
-    let counts = unsafe { crate::foreign::slice_mut(counts, counts_length) };
+    let Some(rows) = (unsafe { crate::foreign::reference(rows) }) else {
+        return crate::foreign::POINTER_OF_V_FRAME_C;
+    };
+    let Some(buffer) = (unsafe { crate::foreign::slice(buffer, buffer_length) }) else {
+        return crate::foreign::POINTER_OF_V_FRAME_C;
+    };
+    let Some(counts) = (unsafe { crate::foreign::slice_mut(counts, counts_length) }) else {
+        return crate::foreign::POINTER_OF_V_FRAME_C;
+    };
     counts::histogram_of_bytes(rows, buffer, counts)
 }
 
-/// Makes entry `v` of `counts` how many pixels have the value `v`. A pixel of a value that has no entry is not counted.
+/// Sets entry `v` of `counts` to the number of pixels with the value `v`. A pixel whose value has no entry is not counted.
 ///
 /// # Safety
 ///
@@ -68,8 +86,14 @@ pub unsafe extern "C" fn v_frame_histogram_u8(rows: *const Rows, buffer: *const 
 #[allow(unsafe_code)]
 #[unsafe(no_mangle)]
 pub unsafe extern "C" fn v_frame_histogram_u16(rows: *const Rows, buffer: *const u16, buffer_length: usize, counts: *mut u64, counts_length: usize) -> u32 {
-    let rows = unsafe { crate::foreign::reference(rows) };
-    let buffer = unsafe { crate::foreign::slice(buffer, buffer_length) };
-    let counts = unsafe { crate::foreign::slice_mut(counts, counts_length) };
+    let Some(rows) = (unsafe { crate::foreign::reference(rows) }) else {
+        return crate::foreign::POINTER_OF_V_FRAME_C;
+    };
+    let Some(buffer) = (unsafe { crate::foreign::slice(buffer, buffer_length) }) else {
+        return crate::foreign::POINTER_OF_V_FRAME_C;
+    };
+    let Some(counts) = (unsafe { crate::foreign::slice_mut(counts, counts_length) }) else {
+        return crate::foreign::POINTER_OF_V_FRAME_C;
+    };
     counts::histogram_of_words(rows, buffer, counts)
 }

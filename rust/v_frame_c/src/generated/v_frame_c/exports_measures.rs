@@ -20,11 +20,21 @@ pub unsafe extern "C" fn v_frame_mean_squared_error_u8(
     b_length: usize,
     error: *mut f64,
 ) -> u32 {
-    let a_rows = unsafe { crate::foreign::reference(a_rows) };
-    let a = unsafe { crate::foreign::slice(a, a_length) };
-    let b_rows = unsafe { crate::foreign::reference(b_rows) };
-    let b = unsafe { crate::foreign::slice(b, b_length) };
-    let error = unsafe { crate::foreign::reference_mut(error) };
+    let Some(a_rows) = (unsafe { crate::foreign::reference(a_rows) }) else {
+        return crate::foreign::POINTER_OF_V_FRAME_C;
+    };
+    let Some(a) = (unsafe { crate::foreign::slice(a, a_length) }) else {
+        return crate::foreign::POINTER_OF_V_FRAME_C;
+    };
+    let Some(b_rows) = (unsafe { crate::foreign::reference(b_rows) }) else {
+        return crate::foreign::POINTER_OF_V_FRAME_C;
+    };
+    let Some(b) = (unsafe { crate::foreign::slice(b, b_length) }) else {
+        return crate::foreign::POINTER_OF_V_FRAME_C;
+    };
+    let Some(error) = (unsafe { crate::foreign::reference_mut(error) }) else {
+        return crate::foreign::POINTER_OF_V_FRAME_C;
+    };
     measures::mean_squared_error(a_rows, a, b_rows, b, error)
 }
 
@@ -44,11 +54,21 @@ pub unsafe extern "C" fn v_frame_mean_squared_error_u16(
     b_length: usize,
     error: *mut f64,
 ) -> u32 {
-    let a_rows = unsafe { crate::foreign::reference(a_rows) };
-    let a = unsafe { crate::foreign::slice(a, a_length) };
-    let b_rows = unsafe { crate::foreign::reference(b_rows) };
-    let b = unsafe { crate::foreign::slice(b, b_length) };
-    let error = unsafe { crate::foreign::reference_mut(error) };
+    let Some(a_rows) = (unsafe { crate::foreign::reference(a_rows) }) else {
+        return crate::foreign::POINTER_OF_V_FRAME_C;
+    };
+    let Some(a) = (unsafe { crate::foreign::slice(a, a_length) }) else {
+        return crate::foreign::POINTER_OF_V_FRAME_C;
+    };
+    let Some(b_rows) = (unsafe { crate::foreign::reference(b_rows) }) else {
+        return crate::foreign::POINTER_OF_V_FRAME_C;
+    };
+    let Some(b) = (unsafe { crate::foreign::slice(b, b_length) }) else {
+        return crate::foreign::POINTER_OF_V_FRAME_C;
+    };
+    let Some(error) = (unsafe { crate::foreign::reference_mut(error) }) else {
+        return crate::foreign::POINTER_OF_V_FRAME_C;
+    };
     measures::mean_squared_error(a_rows, a, b_rows, b, error)
 }
 
@@ -68,15 +88,25 @@ pub unsafe extern "C" fn v_frame_ssim_u8(
     b_length: usize,
     similarity: *mut f64,
 ) -> u32 {
-    let a_rows = unsafe { crate::foreign::reference(a_rows) };
-    let a = unsafe { crate::foreign::slice(a, a_length) };
-    let b_rows = unsafe { crate::foreign::reference(b_rows) };
-    let b = unsafe { crate::foreign::slice(b, b_length) };
-    let similarity = unsafe { crate::foreign::reference_mut(similarity) };
+    let Some(a_rows) = (unsafe { crate::foreign::reference(a_rows) }) else {
+        return crate::foreign::POINTER_OF_V_FRAME_C;
+    };
+    let Some(a) = (unsafe { crate::foreign::slice(a, a_length) }) else {
+        return crate::foreign::POINTER_OF_V_FRAME_C;
+    };
+    let Some(b_rows) = (unsafe { crate::foreign::reference(b_rows) }) else {
+        return crate::foreign::POINTER_OF_V_FRAME_C;
+    };
+    let Some(b) = (unsafe { crate::foreign::slice(b, b_length) }) else {
+        return crate::foreign::POINTER_OF_V_FRAME_C;
+    };
+    let Some(similarity) = (unsafe { crate::foreign::reference_mut(similarity) }) else {
+        return crate::foreign::POINTER_OF_V_FRAME_C;
+    };
     measures::ssim(a_rows, a, b_rows, b, 8, similarity)
 }
 
-/// Measures the structural similarity (SSIM) of two pictures of one size, at so many bits of a sample.
+/// Measures the structural similarity (SSIM) of two pictures of one size whose samples have a bit depth.
 ///
 /// # Safety
 ///
@@ -93,11 +123,21 @@ pub unsafe extern "C" fn v_frame_ssim_u16(
     bit_depth: u32,
     similarity: *mut f64,
 ) -> u32 {
-    let a_rows = unsafe { crate::foreign::reference(a_rows) };
-    let a = unsafe { crate::foreign::slice(a, a_length) };
-    let b_rows = unsafe { crate::foreign::reference(b_rows) };
-    let b = unsafe { crate::foreign::slice(b, b_length) };
-    let similarity = unsafe { crate::foreign::reference_mut(similarity) };
+    let Some(a_rows) = (unsafe { crate::foreign::reference(a_rows) }) else {
+        return crate::foreign::POINTER_OF_V_FRAME_C;
+    };
+    let Some(a) = (unsafe { crate::foreign::slice(a, a_length) }) else {
+        return crate::foreign::POINTER_OF_V_FRAME_C;
+    };
+    let Some(b_rows) = (unsafe { crate::foreign::reference(b_rows) }) else {
+        return crate::foreign::POINTER_OF_V_FRAME_C;
+    };
+    let Some(b) = (unsafe { crate::foreign::slice(b, b_length) }) else {
+        return crate::foreign::POINTER_OF_V_FRAME_C;
+    };
+    let Some(similarity) = (unsafe { crate::foreign::reference_mut(similarity) }) else {
+        return crate::foreign::POINTER_OF_V_FRAME_C;
+    };
     measures::ssim(a_rows, a, b_rows, b, bit_depth, similarity)
 }
 
@@ -117,11 +157,21 @@ pub unsafe extern "C" fn v_frame_greatest_difference_u8(
     b_length: usize,
     found: *mut Greatest,
 ) -> u32 {
-    let a_rows = unsafe { crate::foreign::reference(a_rows) };
-    let a = unsafe { crate::foreign::slice(a, a_length) };
-    let b_rows = unsafe { crate::foreign::reference(b_rows) };
-    let b = unsafe { crate::foreign::slice(b, b_length) };
-    let found = unsafe { crate::foreign::reference_mut(found) };
+    let Some(a_rows) = (unsafe { crate::foreign::reference(a_rows) }) else {
+        return crate::foreign::POINTER_OF_V_FRAME_C;
+    };
+    let Some(a) = (unsafe { crate::foreign::slice(a, a_length) }) else {
+        return crate::foreign::POINTER_OF_V_FRAME_C;
+    };
+    let Some(b_rows) = (unsafe { crate::foreign::reference(b_rows) }) else {
+        return crate::foreign::POINTER_OF_V_FRAME_C;
+    };
+    let Some(b) = (unsafe { crate::foreign::slice(b, b_length) }) else {
+        return crate::foreign::POINTER_OF_V_FRAME_C;
+    };
+    let Some(found) = (unsafe { crate::foreign::reference_mut(found) }) else {
+        return crate::foreign::POINTER_OF_V_FRAME_C;
+    };
     measures::greatest_difference(a_rows, a, b_rows, b, found)
 }
 
@@ -141,15 +191,25 @@ pub unsafe extern "C" fn v_frame_greatest_difference_u16(
     b_length: usize,
     found: *mut Greatest,
 ) -> u32 {
-    let a_rows = unsafe { crate::foreign::reference(a_rows) };
-    let a = unsafe { crate::foreign::slice(a, a_length) };
-    let b_rows = unsafe { crate::foreign::reference(b_rows) };
-    let b = unsafe { crate::foreign::slice(b, b_length) };
-    let found = unsafe { crate::foreign::reference_mut(found) };
+    let Some(a_rows) = (unsafe { crate::foreign::reference(a_rows) }) else {
+        return crate::foreign::POINTER_OF_V_FRAME_C;
+    };
+    let Some(a) = (unsafe { crate::foreign::slice(a, a_length) }) else {
+        return crate::foreign::POINTER_OF_V_FRAME_C;
+    };
+    let Some(b_rows) = (unsafe { crate::foreign::reference(b_rows) }) else {
+        return crate::foreign::POINTER_OF_V_FRAME_C;
+    };
+    let Some(b) = (unsafe { crate::foreign::slice(b, b_length) }) else {
+        return crate::foreign::POINTER_OF_V_FRAME_C;
+    };
+    let Some(found) = (unsafe { crate::foreign::reference_mut(found) }) else {
+        return crate::foreign::POINTER_OF_V_FRAME_C;
+    };
     measures::greatest_difference(a_rows, a, b_rows, b, found)
 }
 
-/// Counts the places at which the values of two pictures of one size are further apart than a threshold.
+/// Counts the places at which the values of two pictures of one size differ by more than a threshold.
 ///
 /// # Safety
 ///
@@ -166,15 +226,25 @@ pub unsafe extern "C" fn v_frame_count_above_u8(
     threshold: u16,
     count: *mut u64,
 ) -> u32 {
-    let a_rows = unsafe { crate::foreign::reference(a_rows) };
-    let a = unsafe { crate::foreign::slice(a, a_length) };
-    let b_rows = unsafe { crate::foreign::reference(b_rows) };
-    let b = unsafe { crate::foreign::slice(b, b_length) };
-    let count = unsafe { crate::foreign::reference_mut(count) };
+    let Some(a_rows) = (unsafe { crate::foreign::reference(a_rows) }) else {
+        return crate::foreign::POINTER_OF_V_FRAME_C;
+    };
+    let Some(a) = (unsafe { crate::foreign::slice(a, a_length) }) else {
+        return crate::foreign::POINTER_OF_V_FRAME_C;
+    };
+    let Some(b_rows) = (unsafe { crate::foreign::reference(b_rows) }) else {
+        return crate::foreign::POINTER_OF_V_FRAME_C;
+    };
+    let Some(b) = (unsafe { crate::foreign::slice(b, b_length) }) else {
+        return crate::foreign::POINTER_OF_V_FRAME_C;
+    };
+    let Some(count) = (unsafe { crate::foreign::reference_mut(count) }) else {
+        return crate::foreign::POINTER_OF_V_FRAME_C;
+    };
     measures::count_above(a_rows, a, b_rows, b, threshold, count)
 }
 
-/// Counts the places at which the values of two pictures of one size are further apart than a threshold.
+/// Counts the places at which the values of two pictures of one size differ by more than a threshold.
 ///
 /// # Safety
 ///
@@ -191,10 +261,20 @@ pub unsafe extern "C" fn v_frame_count_above_u16(
     threshold: u16,
     count: *mut u64,
 ) -> u32 {
-    let a_rows = unsafe { crate::foreign::reference(a_rows) };
-    let a = unsafe { crate::foreign::slice(a, a_length) };
-    let b_rows = unsafe { crate::foreign::reference(b_rows) };
-    let b = unsafe { crate::foreign::slice(b, b_length) };
-    let count = unsafe { crate::foreign::reference_mut(count) };
+    let Some(a_rows) = (unsafe { crate::foreign::reference(a_rows) }) else {
+        return crate::foreign::POINTER_OF_V_FRAME_C;
+    };
+    let Some(a) = (unsafe { crate::foreign::slice(a, a_length) }) else {
+        return crate::foreign::POINTER_OF_V_FRAME_C;
+    };
+    let Some(b_rows) = (unsafe { crate::foreign::reference(b_rows) }) else {
+        return crate::foreign::POINTER_OF_V_FRAME_C;
+    };
+    let Some(b) = (unsafe { crate::foreign::slice(b, b_length) }) else {
+        return crate::foreign::POINTER_OF_V_FRAME_C;
+    };
+    let Some(count) = (unsafe { crate::foreign::reference_mut(count) }) else {
+        return crate::foreign::POINTER_OF_V_FRAME_C;
+    };
     measures::count_above(a_rows, a, b_rows, b, threshold, count)
 }

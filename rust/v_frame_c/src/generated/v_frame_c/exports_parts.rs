@@ -11,7 +11,11 @@ use crate::generated::v_frame_slices::frame_parts::{self, FrameParts, FrameReque
 #[allow(unsafe_code)]
 #[unsafe(no_mangle)]
 pub unsafe extern "C" fn v_frame_lay_out(request: *const FrameRequest, parts: *mut FrameParts) -> u32 {
-    let request = unsafe { crate::foreign::reference(request) };
-    let parts = unsafe { crate::foreign::reference_mut(parts) };
+    let Some(request) = (unsafe { crate::foreign::reference(request) }) else {
+        return crate::foreign::POINTER_OF_V_FRAME_C;
+    };
+    let Some(parts) = (unsafe { crate::foreign::reference_mut(parts) }) else {
+        return crate::foreign::POINTER_OF_V_FRAME_C;
+    };
     frame_parts::lay_out(request, parts)
 }

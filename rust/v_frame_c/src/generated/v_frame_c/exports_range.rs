@@ -4,7 +4,7 @@
 use crate::generated::v_frame_slices::layout::Rows;
 use crate::generated::v_frame_slices::range;
 
-/// Makes the first rows show the picture of the second ones, whose values of the limited range become those of the full one.
+/// Converts the picture of the source rows from the limited range to the full range.
 ///
 /// # Safety
 ///
@@ -21,14 +21,22 @@ pub unsafe extern "C" fn v_frame_to_full_range_u8(
     component: u32,
     depth: u32,
 ) -> u32 {
-    let rows = unsafe { crate::foreign::reference(rows) };
-    let buffer = unsafe { crate::foreign::slice_mut(buffer, buffer_length) };
-    let source_rows = unsafe { crate::foreign::reference(source_rows) };
-    let source = unsafe { crate::foreign::slice(source, source_length) };
+    let Some(rows) = (unsafe { crate::foreign::reference(rows) }) else {
+        return crate::foreign::POINTER_OF_V_FRAME_C;
+    };
+    let Some(buffer) = (unsafe { crate::foreign::slice_mut(buffer, buffer_length) }) else {
+        return crate::foreign::POINTER_OF_V_FRAME_C;
+    };
+    let Some(source_rows) = (unsafe { crate::foreign::reference(source_rows) }) else {
+        return crate::foreign::POINTER_OF_V_FRAME_C;
+    };
+    let Some(source) = (unsafe { crate::foreign::slice(source, source_length) }) else {
+        return crate::foreign::POINTER_OF_V_FRAME_C;
+    };
     range::to_range(rows, buffer, source_rows, source, true, component, depth)
 }
 
-/// Makes the first rows show the picture of the second ones, whose values of the limited range become those of the full one.
+/// Converts the picture of the source rows from the limited range to the full range.
 ///
 /// # Safety
 ///
@@ -45,14 +53,22 @@ pub unsafe extern "C" fn v_frame_to_full_range_u16(
     component: u32,
     depth: u32,
 ) -> u32 {
-    let rows = unsafe { crate::foreign::reference(rows) };
-    let buffer = unsafe { crate::foreign::slice_mut(buffer, buffer_length) };
-    let source_rows = unsafe { crate::foreign::reference(source_rows) };
-    let source = unsafe { crate::foreign::slice(source, source_length) };
+    let Some(rows) = (unsafe { crate::foreign::reference(rows) }) else {
+        return crate::foreign::POINTER_OF_V_FRAME_C;
+    };
+    let Some(buffer) = (unsafe { crate::foreign::slice_mut(buffer, buffer_length) }) else {
+        return crate::foreign::POINTER_OF_V_FRAME_C;
+    };
+    let Some(source_rows) = (unsafe { crate::foreign::reference(source_rows) }) else {
+        return crate::foreign::POINTER_OF_V_FRAME_C;
+    };
+    let Some(source) = (unsafe { crate::foreign::slice(source, source_length) }) else {
+        return crate::foreign::POINTER_OF_V_FRAME_C;
+    };
     range::to_range(rows, buffer, source_rows, source, true, component, depth)
 }
 
-/// Makes the first rows show the picture of the second ones, whose values of the full range become those of the limited one.
+/// Converts the picture of the source rows from the full range to the limited range.
 ///
 /// # Safety
 ///
@@ -69,14 +85,22 @@ pub unsafe extern "C" fn v_frame_to_limited_range_u8(
     component: u32,
     depth: u32,
 ) -> u32 {
-    let rows = unsafe { crate::foreign::reference(rows) };
-    let buffer = unsafe { crate::foreign::slice_mut(buffer, buffer_length) };
-    let source_rows = unsafe { crate::foreign::reference(source_rows) };
-    let source = unsafe { crate::foreign::slice(source, source_length) };
+    let Some(rows) = (unsafe { crate::foreign::reference(rows) }) else {
+        return crate::foreign::POINTER_OF_V_FRAME_C;
+    };
+    let Some(buffer) = (unsafe { crate::foreign::slice_mut(buffer, buffer_length) }) else {
+        return crate::foreign::POINTER_OF_V_FRAME_C;
+    };
+    let Some(source_rows) = (unsafe { crate::foreign::reference(source_rows) }) else {
+        return crate::foreign::POINTER_OF_V_FRAME_C;
+    };
+    let Some(source) = (unsafe { crate::foreign::slice(source, source_length) }) else {
+        return crate::foreign::POINTER_OF_V_FRAME_C;
+    };
     range::to_range(rows, buffer, source_rows, source, false, component, depth)
 }
 
-/// Makes the first rows show the picture of the second ones, whose values of the full range become those of the limited one.
+/// Converts the picture of the source rows from the full range to the limited range.
 ///
 /// # Safety
 ///
@@ -93,9 +117,17 @@ pub unsafe extern "C" fn v_frame_to_limited_range_u16(
     component: u32,
     depth: u32,
 ) -> u32 {
-    let rows = unsafe { crate::foreign::reference(rows) };
-    let buffer = unsafe { crate::foreign::slice_mut(buffer, buffer_length) };
-    let source_rows = unsafe { crate::foreign::reference(source_rows) };
-    let source = unsafe { crate::foreign::slice(source, source_length) };
+    let Some(rows) = (unsafe { crate::foreign::reference(rows) }) else {
+        return crate::foreign::POINTER_OF_V_FRAME_C;
+    };
+    let Some(buffer) = (unsafe { crate::foreign::slice_mut(buffer, buffer_length) }) else {
+        return crate::foreign::POINTER_OF_V_FRAME_C;
+    };
+    let Some(source_rows) = (unsafe { crate::foreign::reference(source_rows) }) else {
+        return crate::foreign::POINTER_OF_V_FRAME_C;
+    };
+    let Some(source) = (unsafe { crate::foreign::slice(source, source_length) }) else {
+        return crate::foreign::POINTER_OF_V_FRAME_C;
+    };
     range::to_range(rows, buffer, source_rows, source, false, component, depth)
 }

@@ -4,8 +4,8 @@
 use crate::generated::v_frame_slices::layout::Rows;
 use crate::generated::v_frame_slices::{halves, resize};
 
-/// Makes the first rows show the picture of the second ones: each pixel is the mean of the area that it covers, rounded to the
-/// nearest value and upwards at a half.
+/// Resizes the picture of the source rows by a box filter: each pixel is the mean of the area that it covers, rounded to the
+/// nearest value, and upwards at a half.
 ///
 /// # Safety
 ///
@@ -20,15 +20,23 @@ pub unsafe extern "C" fn v_frame_resize_area_u8(
     source: *const u8,
     source_length: usize,
 ) -> u32 {
-    let rows = unsafe { crate::foreign::reference(rows) };
-    let buffer = unsafe { crate::foreign::slice_mut(buffer, buffer_length) };
-    let source_rows = unsafe { crate::foreign::reference(source_rows) };
-    let source = unsafe { crate::foreign::slice(source, source_length) };
+    let Some(rows) = (unsafe { crate::foreign::reference(rows) }) else {
+        return crate::foreign::POINTER_OF_V_FRAME_C;
+    };
+    let Some(buffer) = (unsafe { crate::foreign::slice_mut(buffer, buffer_length) }) else {
+        return crate::foreign::POINTER_OF_V_FRAME_C;
+    };
+    let Some(source_rows) = (unsafe { crate::foreign::reference(source_rows) }) else {
+        return crate::foreign::POINTER_OF_V_FRAME_C;
+    };
+    let Some(source) = (unsafe { crate::foreign::slice(source, source_length) }) else {
+        return crate::foreign::POINTER_OF_V_FRAME_C;
+    };
     resize::by_area(rows, buffer, source_rows, source)
 }
 
-/// Makes the first rows show the picture of the second ones: each pixel is the mean of the area that it covers, rounded to the
-/// nearest value and upwards at a half.
+/// Resizes the picture of the source rows by a box filter: each pixel is the mean of the area that it covers, rounded to the
+/// nearest value, and upwards at a half.
 ///
 /// # Safety
 ///
@@ -43,14 +51,23 @@ pub unsafe extern "C" fn v_frame_resize_area_u16(
     source: *const u16,
     source_length: usize,
 ) -> u32 {
-    let rows = unsafe { crate::foreign::reference(rows) };
-    let buffer = unsafe { crate::foreign::slice_mut(buffer, buffer_length) };
-    let source_rows = unsafe { crate::foreign::reference(source_rows) };
-    let source = unsafe { crate::foreign::slice(source, source_length) };
+    let Some(rows) = (unsafe { crate::foreign::reference(rows) }) else {
+        return crate::foreign::POINTER_OF_V_FRAME_C;
+    };
+    let Some(buffer) = (unsafe { crate::foreign::slice_mut(buffer, buffer_length) }) else {
+        return crate::foreign::POINTER_OF_V_FRAME_C;
+    };
+    let Some(source_rows) = (unsafe { crate::foreign::reference(source_rows) }) else {
+        return crate::foreign::POINTER_OF_V_FRAME_C;
+    };
+    let Some(source) = (unsafe { crate::foreign::slice(source, source_length) }) else {
+        return crate::foreign::POINTER_OF_V_FRAME_C;
+    };
     resize::by_area(rows, buffer, source_rows, source)
 }
 
-/// Makes the first rows show the picture of the second ones: each pixel is the one that holds its center.
+/// Resizes the picture of the source rows by the nearest neighbor: each pixel is the pixel of the source that contains its
+/// center.
 ///
 /// # Safety
 ///
@@ -65,14 +82,23 @@ pub unsafe extern "C" fn v_frame_resize_nearest_u8(
     source: *const u8,
     source_length: usize,
 ) -> u32 {
-    let rows = unsafe { crate::foreign::reference(rows) };
-    let buffer = unsafe { crate::foreign::slice_mut(buffer, buffer_length) };
-    let source_rows = unsafe { crate::foreign::reference(source_rows) };
-    let source = unsafe { crate::foreign::slice(source, source_length) };
+    let Some(rows) = (unsafe { crate::foreign::reference(rows) }) else {
+        return crate::foreign::POINTER_OF_V_FRAME_C;
+    };
+    let Some(buffer) = (unsafe { crate::foreign::slice_mut(buffer, buffer_length) }) else {
+        return crate::foreign::POINTER_OF_V_FRAME_C;
+    };
+    let Some(source_rows) = (unsafe { crate::foreign::reference(source_rows) }) else {
+        return crate::foreign::POINTER_OF_V_FRAME_C;
+    };
+    let Some(source) = (unsafe { crate::foreign::slice(source, source_length) }) else {
+        return crate::foreign::POINTER_OF_V_FRAME_C;
+    };
     resize::by_nearest(rows, buffer, source_rows, source)
 }
 
-/// Makes the first rows show the picture of the second ones: each pixel is the one that holds its center.
+/// Resizes the picture of the source rows by the nearest neighbor: each pixel is the pixel of the source that contains its
+/// center.
 ///
 /// # Safety
 ///
@@ -87,15 +113,23 @@ pub unsafe extern "C" fn v_frame_resize_nearest_u16(
     source: *const u16,
     source_length: usize,
 ) -> u32 {
-    let rows = unsafe { crate::foreign::reference(rows) };
-    let buffer = unsafe { crate::foreign::slice_mut(buffer, buffer_length) };
-    let source_rows = unsafe { crate::foreign::reference(source_rows) };
-    let source = unsafe { crate::foreign::slice(source, source_length) };
+    let Some(rows) = (unsafe { crate::foreign::reference(rows) }) else {
+        return crate::foreign::POINTER_OF_V_FRAME_C;
+    };
+    let Some(buffer) = (unsafe { crate::foreign::slice_mut(buffer, buffer_length) }) else {
+        return crate::foreign::POINTER_OF_V_FRAME_C;
+    };
+    let Some(source_rows) = (unsafe { crate::foreign::reference(source_rows) }) else {
+        return crate::foreign::POINTER_OF_V_FRAME_C;
+    };
+    let Some(source) = (unsafe { crate::foreign::slice(source, source_length) }) else {
+        return crate::foreign::POINTER_OF_V_FRAME_C;
+    };
     resize::by_nearest(rows, buffer, source_rows, source)
 }
 
-/// Makes the first rows show the picture of the second ones in half the size, rounded up. Past an edge the last column and the
-/// last row are repeated.
+/// Writes the picture of the source rows in half its size, rounded up. Past an edge the last column and the last row are
+/// repeated.
 ///
 /// # Safety
 ///
@@ -110,15 +144,23 @@ pub unsafe extern "C" fn v_frame_downscale_to_edge_u8(
     source: *const u8,
     source_length: usize,
 ) -> u32 {
-    let rows = unsafe { crate::foreign::reference(rows) };
-    let buffer = unsafe { crate::foreign::slice_mut(buffer, buffer_length) };
-    let source_rows = unsafe { crate::foreign::reference(source_rows) };
-    let source = unsafe { crate::foreign::slice(source, source_length) };
+    let Some(rows) = (unsafe { crate::foreign::reference(rows) }) else {
+        return crate::foreign::POINTER_OF_V_FRAME_C;
+    };
+    let Some(buffer) = (unsafe { crate::foreign::slice_mut(buffer, buffer_length) }) else {
+        return crate::foreign::POINTER_OF_V_FRAME_C;
+    };
+    let Some(source_rows) = (unsafe { crate::foreign::reference(source_rows) }) else {
+        return crate::foreign::POINTER_OF_V_FRAME_C;
+    };
+    let Some(source) = (unsafe { crate::foreign::slice(source, source_length) }) else {
+        return crate::foreign::POINTER_OF_V_FRAME_C;
+    };
     halves::downscale_to_edge(rows, buffer, source_rows, source)
 }
 
-/// Makes the first rows show the picture of the second ones in half the size, rounded up. Past an edge the last column and the
-/// last row are repeated.
+/// Writes the picture of the source rows in half its size, rounded up. Past an edge the last column and the last row are
+/// repeated.
 ///
 /// # Safety
 ///
@@ -133,15 +175,22 @@ pub unsafe extern "C" fn v_frame_downscale_to_edge_u16(
     source: *const u16,
     source_length: usize,
 ) -> u32 {
-    let rows = unsafe { crate::foreign::reference(rows) };
-    let buffer = unsafe { crate::foreign::slice_mut(buffer, buffer_length) };
-    let source_rows = unsafe { crate::foreign::reference(source_rows) };
-    let source = unsafe { crate::foreign::slice(source, source_length) };
+    let Some(rows) = (unsafe { crate::foreign::reference(rows) }) else {
+        return crate::foreign::POINTER_OF_V_FRAME_C;
+    };
+    let Some(buffer) = (unsafe { crate::foreign::slice_mut(buffer, buffer_length) }) else {
+        return crate::foreign::POINTER_OF_V_FRAME_C;
+    };
+    let Some(source_rows) = (unsafe { crate::foreign::reference(source_rows) }) else {
+        return crate::foreign::POINTER_OF_V_FRAME_C;
+    };
+    let Some(source) = (unsafe { crate::foreign::slice(source, source_length) }) else {
+        return crate::foreign::POINTER_OF_V_FRAME_C;
+    };
     halves::downscale_to_edge(rows, buffer, source_rows, source)
 }
 
-/// Makes the first rows show the picture of the second ones with half as many columns, rounded up. Past an edge the last column
-/// is repeated.
+/// Writes the picture of the source rows with half as many columns, rounded up. Past an edge the last column is repeated.
 ///
 /// # Safety
 ///
@@ -156,15 +205,22 @@ pub unsafe extern "C" fn v_frame_halve_columns_u8(
     source: *const u8,
     source_length: usize,
 ) -> u32 {
-    let rows = unsafe { crate::foreign::reference(rows) };
-    let buffer = unsafe { crate::foreign::slice_mut(buffer, buffer_length) };
-    let source_rows = unsafe { crate::foreign::reference(source_rows) };
-    let source = unsafe { crate::foreign::slice(source, source_length) };
+    let Some(rows) = (unsafe { crate::foreign::reference(rows) }) else {
+        return crate::foreign::POINTER_OF_V_FRAME_C;
+    };
+    let Some(buffer) = (unsafe { crate::foreign::slice_mut(buffer, buffer_length) }) else {
+        return crate::foreign::POINTER_OF_V_FRAME_C;
+    };
+    let Some(source_rows) = (unsafe { crate::foreign::reference(source_rows) }) else {
+        return crate::foreign::POINTER_OF_V_FRAME_C;
+    };
+    let Some(source) = (unsafe { crate::foreign::slice(source, source_length) }) else {
+        return crate::foreign::POINTER_OF_V_FRAME_C;
+    };
     halves::halve_columns(rows, buffer, source_rows, source)
 }
 
-/// Makes the first rows show the picture of the second ones with half as many columns, rounded up. Past an edge the last column
-/// is repeated.
+/// Writes the picture of the source rows with half as many columns, rounded up. Past an edge the last column is repeated.
 ///
 /// # Safety
 ///
@@ -179,9 +235,17 @@ pub unsafe extern "C" fn v_frame_halve_columns_u16(
     source: *const u16,
     source_length: usize,
 ) -> u32 {
-    let rows = unsafe { crate::foreign::reference(rows) };
-    let buffer = unsafe { crate::foreign::slice_mut(buffer, buffer_length) };
-    let source_rows = unsafe { crate::foreign::reference(source_rows) };
-    let source = unsafe { crate::foreign::slice(source, source_length) };
+    let Some(rows) = (unsafe { crate::foreign::reference(rows) }) else {
+        return crate::foreign::POINTER_OF_V_FRAME_C;
+    };
+    let Some(buffer) = (unsafe { crate::foreign::slice_mut(buffer, buffer_length) }) else {
+        return crate::foreign::POINTER_OF_V_FRAME_C;
+    };
+    let Some(source_rows) = (unsafe { crate::foreign::reference(source_rows) }) else {
+        return crate::foreign::POINTER_OF_V_FRAME_C;
+    };
+    let Some(source) = (unsafe { crate::foreign::slice(source, source_length) }) else {
+        return crate::foreign::POINTER_OF_V_FRAME_C;
+    };
     halves::halve_columns(rows, buffer, source_rows, source)
 }

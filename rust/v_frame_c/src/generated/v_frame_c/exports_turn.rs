@@ -4,8 +4,8 @@
 use crate::generated::v_frame_slices::layout::Rows;
 use crate::generated::v_frame_slices::turn;
 
-/// Makes the first rows show the picture of the second ones, turned in the way that a number says: 0 upside down, 1 mirrored, 2 by
-/// 180 degrees, 3 transposed, 4 and 5 by 90 and 270 degrees clockwise.
+/// Writes the picture of the source rows turned in the way of a number: 0 upside down, 1 mirrored, 2 rotated by 180 degrees, 3
+/// transposed, 4 and 5 rotated by 90 and 270 degrees clockwise.
 ///
 /// # Safety
 ///
@@ -21,15 +21,23 @@ pub unsafe extern "C" fn v_frame_turn_u8(
     source_length: usize,
     number: u32,
 ) -> u32 {
-    let rows = unsafe { crate::foreign::reference(rows) };
-    let buffer = unsafe { crate::foreign::slice_mut(buffer, buffer_length) };
-    let source_rows = unsafe { crate::foreign::reference(source_rows) };
-    let source = unsafe { crate::foreign::slice(source, source_length) };
+    let Some(rows) = (unsafe { crate::foreign::reference(rows) }) else {
+        return crate::foreign::POINTER_OF_V_FRAME_C;
+    };
+    let Some(buffer) = (unsafe { crate::foreign::slice_mut(buffer, buffer_length) }) else {
+        return crate::foreign::POINTER_OF_V_FRAME_C;
+    };
+    let Some(source_rows) = (unsafe { crate::foreign::reference(source_rows) }) else {
+        return crate::foreign::POINTER_OF_V_FRAME_C;
+    };
+    let Some(source) = (unsafe { crate::foreign::slice(source, source_length) }) else {
+        return crate::foreign::POINTER_OF_V_FRAME_C;
+    };
     turn::turn(rows, buffer, source_rows, source, number)
 }
 
-/// Makes the first rows show the picture of the second ones, turned in the way that a number says: 0 upside down, 1 mirrored, 2 by
-/// 180 degrees, 3 transposed, 4 and 5 by 90 and 270 degrees clockwise.
+/// Writes the picture of the source rows turned in the way of a number: 0 upside down, 1 mirrored, 2 rotated by 180 degrees, 3
+/// transposed, 4 and 5 rotated by 90 and 270 degrees clockwise.
 ///
 /// # Safety
 ///
@@ -45,9 +53,17 @@ pub unsafe extern "C" fn v_frame_turn_u16(
     source_length: usize,
     number: u32,
 ) -> u32 {
-    let rows = unsafe { crate::foreign::reference(rows) };
-    let buffer = unsafe { crate::foreign::slice_mut(buffer, buffer_length) };
-    let source_rows = unsafe { crate::foreign::reference(source_rows) };
-    let source = unsafe { crate::foreign::slice(source, source_length) };
+    let Some(rows) = (unsafe { crate::foreign::reference(rows) }) else {
+        return crate::foreign::POINTER_OF_V_FRAME_C;
+    };
+    let Some(buffer) = (unsafe { crate::foreign::slice_mut(buffer, buffer_length) }) else {
+        return crate::foreign::POINTER_OF_V_FRAME_C;
+    };
+    let Some(source_rows) = (unsafe { crate::foreign::reference(source_rows) }) else {
+        return crate::foreign::POINTER_OF_V_FRAME_C;
+    };
+    let Some(source) = (unsafe { crate::foreign::slice(source, source_length) }) else {
+        return crate::foreign::POINTER_OF_V_FRAME_C;
+    };
     turn::turn(rows, buffer, source_rows, source, number)
 }

@@ -4,7 +4,7 @@
 use v_frame_proved::support::memory::TryVec;
 use std::io;
 
-/// The bytes of a file so far. A write fails where there is no memory for more.
+/// The bytes of a file so far. A write fails if a request for memory fails.
 pub struct Memory {
     bytes: Vec<u8>,
 }

@@ -16,7 +16,7 @@ pub fn fill<T: Pixel>(rows: &Rows, buffer: &mut [T], pixel: T) -> u32 {
     OK
 }
 
-/// Copies the picture of the second rows into the first ones.
+/// Copies the picture of the source rows to the rows of the buffer, which have its size.
 pub fn copy<T: Pixel>(rows: &Rows, buffer: &mut [T], source_rows: &Rows, source: &[T]) -> u32 {
     if !rows.fit(buffer.len()) {
         return FIRST;
@@ -31,7 +31,7 @@ pub fn copy<T: Pixel>(rows: &Rows, buffer: &mut [T], source_rows: &Rows, source:
     OK
 }
 
-/// Makes the first rows show the picture of the second ones in half the size.
+/// Writes the picture of the source rows in half its size. The source is exactly twice as wide and as high as the target.
 pub fn downscale<T: Pixel>(rows: &Rows, buffer: &mut [T], source_rows: &Rows, source: &[T]) -> u32 {
     if !rows.fit(buffer.len()) {
         return FIRST;
@@ -46,7 +46,7 @@ pub fn downscale<T: Pixel>(rows: &Rows, buffer: &mut [T], source_rows: &Rows, so
     OK
 }
 
-/// Decodes rows of bytes into rows of pixels of two bytes. The rows of the source count bytes.
+/// Decodes rows of little-endian bytes to rows of pixels of two bytes. The rows of the source count bytes.
 pub fn decode(rows: &Rows, buffer: &mut [u16], source_rows: &Rows, source: &[u8]) -> u32 {
     if !rows.fit(buffer.len()) {
         return FIRST;
@@ -61,7 +61,7 @@ pub fn decode(rows: &Rows, buffer: &mut [u16], source_rows: &Rows, source: &[u8]
     OK
 }
 
-/// Encodes rows of pixels of two bytes into rows of bytes. The rows of the buffer count bytes.
+/// Encodes rows of pixels of two bytes as rows of little-endian bytes. The rows of the buffer count bytes.
 pub fn encode(rows: &Rows, buffer: &mut [u8], source_rows: &Rows, source: &[u16]) -> u32 {
     if !rows.fit(buffer.len()) {
         return FIRST;
@@ -76,7 +76,7 @@ pub fn encode(rows: &Rows, buffer: &mut [u8], source_rows: &Rows, source: &[u16]
     OK
 }
 
-/// Makes each entry of the border the pixel nearest to it. What lies inside it stays, and so does all after it.
+/// Sets each entry of the border to the nearest pixel. The picture inside of it and all entries after it are unchanged.
 pub fn pad<T: Pixel>(layout: &Bordered, buffer: &mut [T]) -> u32 {
     let Some((geometry, size)) = layout.of(buffer.len()) else {
         return FIRST;

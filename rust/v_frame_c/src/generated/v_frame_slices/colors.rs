@@ -6,7 +6,7 @@ use crate::generated::v_frame_slices::status::{FIRST, FOURTH, NUMBER, OK, SECOND
 use v_frame_proved::plane::RowsRef;
 use v_frame_proved::rgb::{Bgr, Bgra, ColorRange, Rgb, RgbMatrix, Rgba, Standard, rows as colors};
 
-/// Which colors are asked for: the numbers of a standard, of a range and of an order of bytes.
+/// A kind of colors: the numbers of a standard, of a range and of an order of bytes.
 #[repr(C)]
 pub struct ColorChoice {
     pub standard: u32,
@@ -14,7 +14,7 @@ pub struct ColorChoice {
     pub order: u32,
 }
 
-/// Makes the first rows the colors of three pictures of one size.
+/// Writes the colors of three pictures of one size to the rows of the buffer.
 pub fn to_rgb(
     rows: &Rows,
     buffer: &mut [u8],
@@ -71,12 +71,12 @@ fn write_colors(
 }
 
 impl ColorChoice {
-    /// Returns whether the numbers stand for a choice.
+    /// Returns whether each number is one of its enum.
     pub fn is_known(&self) -> bool {
         self.standard < 3 && self.range < 2 && self.order < 4
     }
 
-    /// Returns the coefficients towards colors, where the numbers stand for a choice.
+    /// Returns the coefficients of the conversion to colors, or `None` if a number is not one of its enum.
     pub fn matrix(&self) -> Option<RgbMatrix> {
         if !self.is_known() {
             return None;
@@ -103,7 +103,7 @@ impl ColorChoice {
 }
 
 impl Rows {
-    /// Returns whether these are as many rows as others, with the bytes of a color for each of their pixels.
+    /// Returns whether these rows have the height of others and the bytes of one color for each of their pixels.
     pub fn have_colors_of(&self, other: &Rows, order: u32) -> bool {
         let wide = if order < 2 {
             is_thrice(self.width, other.width)

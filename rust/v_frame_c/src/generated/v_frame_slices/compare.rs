@@ -48,7 +48,7 @@ pub fn absolute_differences<T: Pixel>(
     OK
 }
 
-/// Finds the first pixel, row after row, that differs in two pictures of one size.
+/// Finds the first pixel, row after row from the top, that differs in two pictures of one size.
 pub fn first_difference<T: Pixel>(
     a_rows: &Rows,
     a: &[T],

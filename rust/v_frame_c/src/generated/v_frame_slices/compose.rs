@@ -7,7 +7,8 @@ use crate::generated::v_frame_slices::status::{FIRST, NUMBER, OK, SECOND, SIZES,
 use v_frame_proved::pixel::Pixel;
 use v_frame_proved::ops::rows as pictures;
 
-/// Blends the picture of the second rows over that of the first ones: so many of 256 parts of each pixel are the second's.
+/// Blends the picture of the source rows over the picture of the buffer. The weight is the part of the source in each pixel, in
+/// 256ths.
 pub fn blend<T: Pixel>(
     rows: &Rows,
     buffer: &mut [T],
@@ -38,7 +39,8 @@ pub fn blend<T: Pixel>(
     OK
 }
 
-/// Does the same where a third picture says of each pixel how many of 255 parts are the second's.
+/// Blends the picture of the source rows over the picture of the buffer by a mask, whose pixels are the parts of the source, in
+/// 255ths.
 pub fn blend_with_mask<T: Pixel>(
     rows: &Rows,
     buffer: &mut [T],
@@ -63,7 +65,8 @@ pub fn blend_with_mask<T: Pixel>(
     OK
 }
 
-/// Makes each pixel of the first rows how far it lies from that of the second, times a gain, and at most the largest value.
+/// Replaces each pixel of the buffer by its absolute difference from the pixel of the source, times a gain, but at most by the
+/// largest value of the bit depth.
 pub fn difference<T: Pixel>(
     rows: &Rows,
     buffer: &mut [T],

@@ -6,7 +6,7 @@ use crate::generated::v_frame_slices::status::{FIRST, NUMBER, OK, SECOND, SIZES}
 use v_frame_proved::pixel::Pixel;
 use v_frame_proved::convert::rows as conversions;
 
-/// Makes the first rows show the picture of the second ones, whose values have bit depth `from`, in bit depth `to`.
+/// Converts the picture of the source rows from the bit depth `from` to the bit depth `to`.
 pub fn convert_depth<S: Pixel, T: Pixel>(
     rows: &Rows,
     buffer: &mut [T],
@@ -39,7 +39,7 @@ pub fn convert_depth<S: Pixel, T: Pixel>(
     OK
 }
 
-/// Returns two bit depths, where they fit their types of pixels.
+/// Returns two bit depths, or `None` if one of them does not fit its type of pixels.
 fn depths<S: Pixel, T: Pixel>(from: u32, to: u32) -> Option<(u8, u8)> {
     if is_depth::<S>(from) && is_depth::<T>(to) {
         return Some((from as u8, to as u8));
@@ -52,7 +52,7 @@ pub fn is_depth<T: Pixel>(depth: u32) -> bool {
     8 <= depth && depth <= 8 * (T::PIXEL_BYTES as u32)
 }
 
-/// Makes the first rows show the picture of the second ones, with each pixel `ratio_x` times across and `ratio_y` times down.
+/// Writes the picture of the source rows with each pixel repeated `ratio_x` times across and `ratio_y` times down.
 pub fn upscale<T: Pixel>(
     rows: &Rows,
     buffer: &mut [T],

@@ -14,7 +14,7 @@ pub struct FrameRequest {
     pub format: u32,
 }
 
-/// A plane in a buffer: the index that it begins at, how many entries it has, and its layout.
+/// A plane in a buffer: the index at which it begins, the number of its entries, and its layout.
 #[repr(C)]
 pub struct PlanePart {
     pub offset: usize,
@@ -22,7 +22,7 @@ pub struct PlanePart {
     pub layout: Bordered,
 }
 
-/// The planes of a frame, and how many entries they have together.
+/// The planes of a frame, and the number of their entries together.
 #[repr(C)]
 pub struct FrameParts {
     pub y: PlanePart,
@@ -47,7 +47,7 @@ pub fn lay_out(request: &FrameRequest, parts: &mut FrameParts) -> u32 {
     OK
 }
 
-/// Lays out luma alone.
+/// Lays out a frame without chroma.
 fn of_luma(request: &FrameRequest) -> Option<FrameParts> {
     let (luma, count) = luma_of(request, 1, 1)?;
     Some(FrameParts {
@@ -62,7 +62,7 @@ fn of_luma(request: &FrameRequest) -> Option<FrameParts> {
     })
 }
 
-/// Lays out luma and chroma of these ratios.
+/// Lays out luma, and chroma with the given ratios.
 fn of_all(request: &FrameRequest, columns: usize, rows: usize) -> Option<FrameParts> {
     let (luma, luma_count) = luma_of(request, columns, rows)?;
     let (u, chroma_count) = chroma_of(request, columns, rows)?;
@@ -88,14 +88,14 @@ fn of_all(request: &FrameRequest, columns: usize, rows: usize) -> Option<FramePa
     })
 }
 
-/// Returns the layout of luma, and how many entries it has.
+/// Returns the layout of luma, and the number of its entries.
 fn luma_of(request: &FrameRequest, columns: usize, rows: usize) -> Option<(Bordered, usize)> {
     let across = request.padding.div_ceil(columns).checked_mul(columns)?;
     let down = request.padding.div_ceil(rows).checked_mul(rows)?;
     sized(request.width, request.height, across, down)
 }
 
-/// Returns the layout of chroma, and how many entries it has.
+/// Returns the layout of chroma, and the number of its entries.
 fn chroma_of(request: &FrameRequest, columns: usize, rows: usize) -> Option<(Bordered, usize)> {
     sized(
         request.width.div_ceil(columns),
@@ -105,7 +105,7 @@ fn chroma_of(request: &FrameRequest, columns: usize, rows: usize) -> Option<(Bor
     )
 }
 
-/// Returns a layout with these paddings on the left and the right, and above and below, and how many entries it has.
+/// Returns a layout with a padding on the left and the right and a padding above and below, and the number of its entries.
 fn sized(width: usize, height: usize, across: usize, down: usize) -> Option<(Bordered, usize)> {
     let layout = Bordered {
         width,
@@ -119,7 +119,7 @@ fn sized(width: usize, height: usize, across: usize, down: usize) -> Option<(Bor
     Some((layout, count))
 }
 
-/// Returns no plane.
+/// Returns a plane of which all numbers are 0.
 fn none() -> PlanePart {
     PlanePart {
         offset: 0,

@@ -6,8 +6,8 @@ use crate::generated::v_frame_slices::status::{FIRST, OK, SECOND, SIZES};
 use v_frame_proved::pixel::Pixel;
 use v_frame_proved::convert::rows as conversions;
 
-/// Makes the first rows show the picture of the second ones in half the size, rounded up. Past an edge the last column and the
-/// last row are repeated.
+/// Writes the picture of the source rows in half its size, rounded up. Past an edge the last column and the last row are
+/// repeated.
 pub fn downscale_to_edge<T: Pixel>(
     rows: &Rows,
     buffer: &mut [T],
@@ -27,8 +27,7 @@ pub fn downscale_to_edge<T: Pixel>(
     OK
 }
 
-/// Makes the first rows show the picture of the second ones with half as many columns, rounded up. Past an edge the last column
-/// is repeated.
+/// Writes the picture of the source rows with half as many columns, rounded up. Past an edge the last column is repeated.
 pub fn halve_columns<T: Pixel>(
     rows: &Rows,
     buffer: &mut [T],

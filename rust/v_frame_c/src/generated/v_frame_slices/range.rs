@@ -7,8 +7,7 @@ use crate::generated::v_frame_slices::status::{FIRST, NUMBER, OK, SECOND, SIZES}
 use v_frame_proved::pixel::Pixel;
 use v_frame_proved::convert::{Component, rows as conversions};
 
-/// Makes the first rows show the picture of the second ones with values of the full range, or else of the limited one. Those of the
-/// second are of the other range.
+/// Converts the picture of the source rows to the full range, or from the full range to the limited one.
 pub fn to_range<T: Pixel>(
     rows: &Rows,
     buffer: &mut [T],
@@ -43,7 +42,7 @@ pub fn to_range<T: Pixel>(
     OK
 }
 
-/// Returns the component of a number, where there is one.
+/// Returns the component of a number, or `None` if there is no such component.
 fn component_of(number: u32) -> Option<Component> {
     match number {
         0 => Some(Component::Luma),

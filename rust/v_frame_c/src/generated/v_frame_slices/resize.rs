@@ -6,7 +6,7 @@ use crate::generated::v_frame_slices::status::{FIRST, OK, SECOND, SIZES};
 use v_frame_proved::pixel::Pixel;
 use v_frame_proved::resize::rows as sizes;
 
-/// Makes the first rows show the picture of the second ones: each pixel is the mean of the area that it covers.
+/// Resizes the picture of the source rows by a box filter: each pixel is the mean of the area that it covers.
 pub fn by_area<T: Pixel>(rows: &Rows, buffer: &mut [T], source_rows: &Rows, source: &[T]) -> u32 {
     if !rows.fit(buffer.len()) {
         return FIRST;
@@ -21,7 +21,8 @@ pub fn by_area<T: Pixel>(rows: &Rows, buffer: &mut [T], source_rows: &Rows, sour
     OK
 }
 
-/// Makes the first rows show the picture of the second ones: each pixel is the one that holds its center.
+/// Resizes the picture of the source rows by the nearest neighbor: each pixel is the pixel of the source that contains its
+/// center.
 pub fn by_nearest<T: Pixel>(rows: &Rows, buffer: &mut [T], source_rows: &Rows, source: &[T]) -> u32 {
     if !rows.fit(buffer.len()) {
         return FIRST;
@@ -37,12 +38,12 @@ pub fn by_nearest<T: Pixel>(rows: &Rows, buffer: &mut [T], source_rows: &Rows, s
 }
 
 impl Rows {
-    /// Returns whether a picture of another size can be resized to this one by areas.
+    /// Returns whether a picture of another size can be resized to these rows by a box filter.
     pub fn have_areas_of(&self, source: &Rows) -> bool {
         sizes::can_resize(source.width, source.height, self.width, self.height)
     }
 
-    /// Returns whether the units of a line and of a column can be counted.
+    /// Returns whether the units of a row and of a column can be counted in 64 bits.
     pub fn are_counted(&self) -> bool {
         self.width < 1 << 62 && self.height < 1 << 62
     }

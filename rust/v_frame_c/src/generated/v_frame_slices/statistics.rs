@@ -6,7 +6,7 @@ use crate::generated::v_frame_slices::status::{FIRST, OK, SECOND, SIZES};
 use v_frame_proved::pixel::Pixel;
 use v_frame_proved::statistics::rows as statistics;
 
-/// What the pixels of a picture add up to, and between which values they lie.
+/// The sums of the pixels of a picture and of their squares, and the least and the greatest value.
 #[repr(C)]
 pub struct Statistics {
     pub count: u64,
@@ -16,7 +16,7 @@ pub struct Statistics {
     pub maximum: u32,
 }
 
-/// The sums over two pictures of which SSIM and correlations are made.
+/// The sums over two pictures from which SSIM and correlations are computed.
 #[repr(C)]
 pub struct PairStatistics {
     pub first: Sum,

@@ -6,7 +6,7 @@ use crate::generated::v_frame_slices::status::{FIRST, NUMBER, OK, SECOND, SIZES}
 use v_frame_proved::pixel::Pixel;
 use v_frame_proved::turn::{Turn, rows as turns};
 
-/// Makes the first rows show the picture of the second ones, turned in the way that a number says.
+/// Writes the picture of the source rows turned in the way of a number.
 pub fn turn<T: Pixel>(
     rows: &Rows,
     buffer: &mut [T],
@@ -30,7 +30,7 @@ pub fn turn<T: Pixel>(
     OK
 }
 
-/// Returns the way to turn that a number says.
+/// Returns the way to turn of a number.
 fn numbered_turn(number: u32) -> Option<Turn> {
     match number {
         0 => Some(Turn::FlipVertical),

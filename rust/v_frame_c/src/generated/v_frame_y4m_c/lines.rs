@@ -3,20 +3,20 @@
 
 use v_frame_proved::y4m::MAX_LINE_BYTES;
 
-/// Why no line stands at the front of bytes.
+/// Why bytes do not begin with a line.
 pub enum LineFault {
-    /// There is no line feed among the bytes, and they are no more than a line may have.
+    /// There is no line feed among the bytes, of which there are at most as many as a line may have.
     Unfinished,
-    /// The line has more bytes than a line may have.
+    /// The line is longer than a line may be.
     TooLong,
 }
 
-/// Returns how many bytes the first line has, without its line feed.
+/// Returns the number of bytes of the first line, without its line feed.
 ///
 /// # Errors
 ///
-/// [`LineFault::TooLong`] where no line feed stands among the first 1025 bytes, and [`LineFault::Unfinished`] where there are
-/// fewer and none is among them.
+/// [`LineFault::TooLong`] if there is no line feed among the first 1025 bytes, and [`LineFault::Unfinished`] if there are fewer
+/// bytes and no line feed.
 pub fn line_length(bytes: &[u8]) -> Result<usize, LineFault> {
     let mut at = 0;
     while at < bytes.len() {
