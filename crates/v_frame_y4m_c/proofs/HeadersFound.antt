@@ -1,5 +1,5 @@
 -- The header of numbers.
-use Rattle.std.proofs.Common.{ℕ, ◌≡◌, sym, subst}
+use Rattle.std.proofs.Common.{ℕ, ◌≡◌, List, All, ap, inl, inr, refl, sym, subst}
 use Rattle.std.specs.Prelude.{Option, Some}
 use Rattle.v_frame.specs.Prelude.{ChromaSubsampling}
 use Rattle.v_frame_y4m.specs.Color.{color_with, depth_of, siting_of, subsampling_of}
@@ -7,9 +7,10 @@ use Rattle.v_frame_y4m.specs.declared.color.ChromaSiting.{ChromaSiting}
 use Rattle.v_frame_y4m.specs.declared.color.Color.{Color}
 use Rattle.v_frame_y4m.specs.declared.header.StreamHeader.{StreamHeader}
 use Rattle.v_frame_slices.specs.Formats.{format_number}
-use Rattle.v_frame_y4m_c.specs.Extensions.{range_number}
+use Rattle.v_frame_y4m.specs.Header.{IsPiece}
+use Rattle.v_frame_y4m_c.specs.Extensions.{range_number, HasExtensions}
 use Rattle.v_frame_y4m_c.specs.Header.{interlacing_number, numbers_of, ratio_numbers, siting_number}
-use Rattle.v_frame_y4m_c.specs.Numbers.{without_range}
+use Rattle.v_frame_y4m_c.specs.Numbers.{without_range, IsHeaderOf, IsWrittenHeader}
 use Rattle.v_frame_y4m_c.specs.declared.header.Header.{Header}
 
 -- a header whose numbers are the given ones, one by one, has all of them
@@ -28,3 +29,36 @@ found_by_its_own f bits siting c found format depth sited =
     let at_format = subst (λ (x : ChromaSubsampling). color_with x bits siting ≡ Some c) (sym format) found in
     let at_depth = subst (λ (x : ℕ). color_with (subsampling_of c) x siting ≡ Some c) (sym depth) at_format in
     subst (λ (x : Option ChromaSiting). color_with (subsampling_of c) (depth_of c) x ≡ Some c) (sym sited) at_depth
+
+-- extensions that a text states are parts of a header line
+pieces_said : (range : ℕ) (text : List ℕ) (xs : List (List ℕ)) → HasExtensions range text xs → All IsPiece xs
+pieces_said range text xs has = elim has.said [
+  | inl said ↦ subst (λ (it : List (List ℕ)). All IsPiece it) said.3 said.2.writable.extensions
+  | inr said ↦ subst (λ (it : List (List ℕ)). All IsPiece it) said.3 said.2.writable.extensions
+]
+
+-- a header with these extensions has the range that they state
+with_extensions : (n : Header) (h : StreamHeader) (xs : List (List ℕ)) → numbers_of h ≡ without_range n
+    → range_number xs ≡ n.range → numbers_of (record h { extensions = xs }) ≡ n
+with_extensions n h xs numbers range =
+    rw (
+      ap (λ (m : Header). m.width) numbers,
+      ap (λ (m : Header). m.height) numbers,
+      ap (λ (m : Header). m.frame_rate) numbers,
+      ap (λ (m : Header). m.pixel_aspect) numbers,
+      ap (λ (m : Header). m.format) numbers,
+      ap (λ (m : Header). m.bit_depth) numbers,
+      ap (λ (m : Header). m.siting) numbers,
+      ap (λ (m : Header). m.interlacing) numbers,
+      range,
+    )
+
+-- the header that is written: the numbers, and the extensions of the text
+pub written : (n : Header) (text : List ℕ) (h : StreamHeader) (xs : List (List ℕ)) → IsHeaderOf n h
+    → HasExtensions n.range text xs → IsWrittenHeader n text (record h { extensions = xs })
+written n text h xs is has = record {
+  numbers = with_extensions n h xs is.numbers has.stated;
+  writable = record { width = is.writable.width; height = is.writable.height; extensions = pieces_said n.range text xs has };
+  color = is.color;
+  extensions = has;
+}

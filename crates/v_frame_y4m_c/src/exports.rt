@@ -1,5 +1,5 @@
 //! The calls of the library for C.
-ghost use Rattle.std.specs.Prelude.{ℕ, ◌≡◌, ◌≢◌, ◌+◌, ◌<◌, ◌≤◌, ◌++◌, ◌∷◌, [], length, take};
+ghost use Rattle.std.specs.Prelude.{List, ℕ, ◌≡◌, ◌≢◌, ◌+◌, ◌<◌, ◌≤◌, ◌++◌, ◌∷◌, [], length, take};
 ghost use Rattle.v_frame.specs.Prelude.{usize_max};
 ghost use Rattle.v_frame_y4m.specs.Ascii.{line_feed};
 ghost use Rattle.v_frame_y4m.specs.Faults.{IsRefusedFor};
@@ -9,13 +9,14 @@ ghost use Rattle.v_frame_y4m.specs.Lax.{strict_line, IsLaxFrameLine};
 ghost use Rattle.v_frame_y4m.specs.Streams.{IsFrameLine};
 ghost use Rattle.v_frame_y4m.specs.declared.error.HeaderError.{HeaderError as TheError};
 ghost use Rattle.v_frame_y4m.specs.declared.header.StreamHeader.{StreamHeader as TheHeader};
-ghost use Rattle.v_frame_y4m_c.specs.Extensions.{extension_texts, HasNoExtensions};
+ghost use Rattle.v_frame_y4m_c.specs.Extensions.{extension_texts, HasExtensions, HasNoExtensions};
 ghost use Rattle.v_frame_y4m_c.specs.Header.{letter_of as letter_in, numbers_of, status_of as status_in};
 ghost use Rattle.v_frame_y4m_c.specs.Lax.{Says};
 ghost use Rattle.v_frame_y4m_c.specs.Lines.{HasNoLine, IsFirstLine};
 ghost use Rattle.v_frame_y4m_c.specs.Numbers.{HasNoHeader, IsHeaderOf, IsWrittenHeader, IsWrittenInFront};
 ghost use Rattle.v_frame_y4m_c.specs.Status.{no_frame, not_extensions, other_range, out_of_memory, short_buffer, size_too_large, status_of_line as line_status, status_of_numbers as number_status};
 ghost use Rattle.v_frame_y4m_c.specs.declared.extensions.ExtensionFault.TheVariants.{NotExtensions, OtherRange};
+ghost use Rattle.v_frame_y4m_c.specs.declared.header.Header.{Header as Numbers};
 ghost use Rattle.v_frame_y4m_c.specs.declared.lines.LineFault.{LineFault as TheLineFault};
 ghost use Rattle.v_frame_y4m_c.specs.declared.numbers.NumberFault.{NumberFault as TheNumberFault};
 
@@ -27,6 +28,7 @@ use crate::status::{
     status_of_extensions, status_of_line, status_of_numbers,
 };
 use std::alloc::Global;
+use v_frame::sequence::Sequence;
 use v_frame_y4m::{
     StreamHeader, header_line_with_newline, is_frame_line, is_lax_frame_line, parse_lax_header,
 };
@@ -192,15 +194,7 @@ pub extern "C" fn v_frame_y4m_write_header(
         Ok(extensions) => extensions,
         Err(fault) => return status_of_extensions(&fault),
     };
-    let found = StreamHeader {
-        width: numbers.width,
-        height: numbers.height,
-        frame_rate: numbers.frame_rate,
-        interlacing: numbers.interlacing,
-        pixel_aspect: numbers.pixel_aspect,
-        color: numbers.color,
-        extensions,
-    };
+    let found = with_extensions(&numbers, extensions);
     let Ok(line) = header_line_with_newline(alloc, &found) else {
         return OUT_OF_MEMORY;
     };
@@ -210,6 +204,23 @@ pub extern "C" fn v_frame_y4m_write_header(
     }
     buffer[..line.len()].copy_from_slice(line.as_slice());
     OK
+}
+
+/// Returns a header with the numbers of a header and these extensions.
+#[tactic(auto, using(crate::proofs::HeadersFound::written))]
+fn with_extensions(numbers: &StreamHeader, extensions: Sequence<Sequence<u8>>) -> StreamHeader
+    ensures { (n : Numbers) → (text : List ℕ) → IsHeaderOf n numbers.now
+        → HasExtensions n.range text extensions → IsWrittenHeader n text result }
+{
+    StreamHeader {
+        width: numbers.width,
+        height: numbers.height,
+        frame_rate: numbers.frame_rate,
+        interlacing: numbers.interlacing,
+        pixel_aspect: numbers.pixel_aspect,
+        color: numbers.color,
+        extensions,
+    }
 }
 
 /// Counts the bytes of a frame of a stream after its line: the planes Y, U and V.

@@ -3,8 +3,8 @@ ghost use Rattle.std.specs.Prelude.{◌≡◌, ◌≢◌, ◌↔◌, ◌++◌, �
 ghost use Rattle.std.specs.List.{list_any};
 ghost use Rattle.std.specs.Str.{bytes_eq};
 ghost use Rattle.v_frame_y4m.specs.Ascii.{extension_letter, space};
-ghost use Rattle.v_frame_y4m.specs.Header.{spelled as spelling};
-ghost use Rattle.v_frame_y4m_c.specs.Extensions.{range_number, range_text as text_of_range, AreRefused, HasExtensions, HasNoExtensions, IsBare, SaysExtensions};
+ghost use Rattle.v_frame_y4m.specs.Header.{spelled as spelling, IsHeader};
+ghost use Rattle.v_frame_y4m_c.specs.Extensions.{range_number, ended_by, range_text as text_of_range, AreRefused, HasExtensions, HasNoExtensions, IsBare, SaysExtensions};
 
 use std::alloc::{AllocError, Global};
 use v_frame::sequence::Sequence;
@@ -111,27 +111,49 @@ fn range_text(range: u32) -> &'static [u8]
     }
 }
 
-/// Returns the extensions that a text states: those of the header line that the text ends.
+/// Returns the extensions that a text states: the extensions of the header line that ends in the text.
 fn said(alloc: Global, text: &[u8]) -> Result<Sequence<Sequence<u8>>, ExtensionFault>
     ensures found { IfOk result (SaysExtensions text.now) }
     ensures refused { IfErr result (AreRefused text.now) }
 {
-    let mut line = Vec::new(alloc);
-    if line.extend_from_slice(b"YUV4MPEG2 W1 H1").is_err()
-        || line.extend_from_slice(text).is_err()
-    {
-        return Err(ExtensionFault::OutOfMemory);
+    let found = header_ended_by(alloc, text)?;
+    if is_bare(&found) {
+        Ok(found.extensions)
+    } else {
+        Err(ExtensionFault::NotExtensions)
     }
+}
+
+/// Parses the shortest header line that ends in a text.
+fn header_ended_by(alloc: Global, text: &[u8]) -> Result<StreamHeader, ExtensionFault>
+    ensures found { IfOk result (IsHeader (ended_by text.now)) }
+    ensures refused { IfErr result (AreRefused text.now) }
+{
+    let line = line_ended_by(alloc, text).map_err(|_| ExtensionFault::OutOfMemory)?;
     match parse_header(alloc, line.as_slice()) {
-        Ok(found) => {
-            if is_bare(&found) {
-                Ok(found.extensions)
-            } else {
-                Err(ExtensionFault::NotExtensions)
-            }
-        }
-        Err(HeaderError::OutOfMemory) => Err(ExtensionFault::OutOfMemory),
-        Err(_) => Err(ExtensionFault::NotExtensions),
+        Ok(found) => Ok(found),
+        Err(error) => Err(fault_of(error)),
+    }
+}
+
+/// Returns the shortest header line that ends in a text.
+fn line_ended_by(alloc: Global, text: &[u8]) -> Result<Vec<u8>, AllocError>
+    ensures { IfOk result (λ line. line.items ≡ ended_by text.now) }
+{
+    let mut line = Vec::new(alloc);
+    line.extend_from_slice(b"YUV4MPEG2 W1 H1")?;
+    line.extend_from_slice(text)?;
+    Ok(line)
+}
+
+/// Returns why a text states no extensions, if the header line that ends in the text is rejected for this reason.
+fn fault_of(error: HeaderError) -> ExtensionFault
+    ensures memory { error ≡ HeaderError.OutOfMemory → result ≡ ExtensionFault.OutOfMemory }
+    ensures other { error ≢ HeaderError.OutOfMemory → result ≡ ExtensionFault.NotExtensions }
+{
+    match error {
+        HeaderError::OutOfMemory => ExtensionFault::OutOfMemory,
+        _ => ExtensionFault::NotExtensions,
     }
 }
 
