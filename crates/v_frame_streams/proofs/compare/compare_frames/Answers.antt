@@ -1,5 +1,5 @@
 -- One more pair of frames was compared.
-use Rattle.std.proofs.Common.{ℕ, ◌≡◌, ◌+◌, ◌∙◌, Bool, true, ap, arith, refl, subst, sym}
+use Rattle.std.proofs.Common.{ℕ, ◌≡◌, ◌+◌, ◌<◌, ◌∙◌, Bool, true, ap, arith, refl, subst, sym}
 use Rattle.std.proofs.Common.{false, inl, inr}
 use Rattle.std.specs.Prelude.{◌⊎◌}
 use Rattle.v_frame.specs.Prelude.{tables_of, Tables}
@@ -121,8 +121,10 @@ returns-then-not-more-clause-taken g c =
       | then-not-more-via-then-not-more w ↦ inl w.if-not-more.true
       | then-not-more-via-else-not-more+then-not-also w ↦ inr w.if-not-also.true
     ] in
+    let fewer : c.loop-count.found.frames < c.args.most =
+    omega (arith, before.counted, c.loop-count-test.true) in
     watched_to_end form size one other _ mid left _ far right c.loop-count.found c.loop-count.found before.watched.0
-    g.O.FrameObserver.takes c.args.observer.now c.loop-count.observer before.watched.1 c.args.most
+    g.O.FrameObserver.takes c.args.observer.now c.loop-count.observer before.watched.1 c.args.most fewer
     c.longer_of-longer.result more also read also_read c.longer_of-longer.ensures shorter
 
 pub returns-then-not-more-clause-compared : goal.returns-then-not-more-clause-compared
