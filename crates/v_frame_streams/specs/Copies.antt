@@ -144,12 +144,14 @@ module _ (from : Container) (count : ℕ) (left left' has has' : Option (List �
       × Appends has has' (written_bytes to frame.1)
   MovesNext to false = Consumes left left' [] × IsAtEnd left' × Appends has has' []
 
-  -- The source was copied: `frames` are the frames read, and no more than requested. The header was
-  -- written, followed by the frames made from those that are kept.
+  -- The source was copied: `frames` are the frames read, at most those skipped and those requested.
+  -- If there were fewer, the source ended. The header was written, followed by the frames made from
+  -- those that are kept.
   pub record CopiesBy (to : Container) (options : CopyOptions) (header : StreamHeader)
       (made : List ℕ → List ℕ) (found : ℕ) : Type 0 where
     pub frames : List Framed
     pub read : ReadsFrames left left' from count frames
+    pub bound : length frames ≤ options.skip + limit_of options
     pub ends : (length frames ≡ options.skip + limit_of options) ⊎ IsAtEnd left'
     pub counted : length (kept options frames) ≡ found
     pub written : Appends has has'
