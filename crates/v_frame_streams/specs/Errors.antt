@@ -53,7 +53,7 @@ module _ (start left : Option (List ℕ)) where
   abbrev pub StopsInHeaderLine : Y4mError → Type 0
   StopsInHeaderLine (Header error) =
       (line : List ℕ) × IsRefusedFor (strict_line line) error × IsLine line
-      × Consumes start left (line ++ line_feed ∷ [])
+      × (length line ≤ max_line_bytes) × Consumes start left (line ++ line_feed ∷ [])
   StopsInHeaderLine LineTooLong =
       (bytes : List ℕ) × IsLine bytes × (length bytes ≡ max_line_bytes + 1)
       × Consumes start left bytes
@@ -103,7 +103,7 @@ StopsFrame from start left count (Stream UnfinishedLine) =
     × Consumes start.bytes left.bytes bytes × IsAtEnd left.bytes
 StopsFrame from start left count (Stream NoFrame) =
     (from ≡ Y4m)
-    × (line : List ℕ) × ¬ (IsLaxFrameLine line) × IsLine line
+    × (line : List ℕ) × ¬ (IsLaxFrameLine line) × IsLine line × (length line ≤ max_line_bytes)
     × Consumes start.bytes left.bytes (line ++ line_feed ∷ [])
 StopsFrame from start left count (Stream (Planar (Truncated expected found))) =
     (expected ≡ count) × (found < count) × (from ≡ Raw → 0 < found)

@@ -27,8 +27,8 @@ returns-in_err-read_part-in-Y4m-clause-problem g c =
     let p = err_from_is_err_and c.from_residual-in_err-read_part-in-Y4m.result
     c.from_residual-in_err-read_part-in-Y4m.ensures.1 in
     rw (p.1, p.2) (subst (λ (from : Container). StopsFrame from start left count problem) (sym c.in-Y4m.is)
-    (stops_in_frame start left count mid first.uncounted Y4m line.0 [] (line.1, line.2) (λ raw. absurd (search (rules, raw)))
-    line.3 problem stops))
+    (stops_in_frame start left count mid first.uncounted Y4m line.0 [] (line.1, line.2, line.3) (λ raw. absurd (search (rules, raw)))
+    line.4 problem stops))
 
 pub returns-then-found-front-clause-problem : goal.returns-then-found-front-clause-problem
 returns-then-found-front-clause-problem g c =
