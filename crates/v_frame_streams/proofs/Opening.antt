@@ -22,7 +22,7 @@ module _ {R : Type 0} (remaining : R → Option (List ℕ)) (old new : Watched R
   opening_stops UnfinishedLine stops =
       (remaining new.inner, (stops.0.0, stops.0.2, stops.0.3, stops.0.1, stops.1))
   opening_stops NoFrame stops = (remaining new.inner, stops)
-  opening_stops (Planar error) stops = (remaining new.inner, stops.0)
+  opening_stops (Planar error) stops = (remaining new.inner, (stops.0, stops.1.0, stops.1.2, stops.1.1))
 
   pub line_stops : (count : ℕ) (error : Y4mError) → MayStopInLaxFrameLine remaining old new error
       → StopsFrame Y4m (unread remaining old) (unread remaining new) count (Stream error)

@@ -1,12 +1,14 @@
 -- The errors of opening and reading a stream, the request for a picture of it, and the system
 -- errors behind them.
-use Rattle.std.specs.Prelude.{ℕ, ◌≡◌, ◌+◌, ◌≤◌, ◌<◌, Bool, List, [], ◌∷◌, ◌++◌, length, min, Option, None}
+use Rattle.std.specs.Prelude.{ℕ, ◌≡◌, ◌+◌, ◌≤◌, ◌<◌, ◌⊎◌, Bool, List, [], ◌∷◌, ◌++◌, length, min, IsSome, Option, None}
 use Rattle.std.specs.Io.KnownBytes.{Consumes, IsAtEnd}
 use Rattle.std.specs.declared.io.ErrorKind.{ErrorKind}
 use Rattle.v_frame.specs.Prelude.{usize_max, FrameRequest}
 use Rattle.v_frame_planar.specs.Video.{video_request}
 use Rattle.v_frame_planar.specs.declared.error.PlanarError.TheVariants.{Read, Truncated, Write}
-use Rattle.v_frame_planar.specs.Counted.{HasFailed}
+use Rattle.v_frame_planar.specs.declared.error.PlanarError.TheVariants.{OutOfMemory as NoMemory}
+use Rattle.v_frame_planar.specs.Counted.{HasFailed, Watched}
+use Rattle.v_frame_planar.specs.Planar.{MayStopWriting}
 use Rattle.v_frame_y4m.specs.Ascii.{line_feed}
 use Rattle.v_frame_y4m.specs.Color.{depth_of, subsampling_of}
 use Rattle.v_frame_y4m.specs.Faults.{IsRefusedFor}
@@ -21,7 +23,7 @@ use Rattle.v_frame_streams.specs.declared.error.Problem.{Problem}
 use Rattle.v_frame_streams.specs.declared.error.Problem.TheVariants.{OutOfMemory, Stream, TooLarge}
 use Rattle.v_frame_streams.specs.declared.error.StreamError.{StreamError}
 use Rattle.v_frame_streams.specs.declared.stream.Place.{Place}
-use Rattle.v_frame_streams.specs.Streams.{framed_bytes, most_frames, Framed, HasLine, ReadsFrames, ReadsHeaderLine}
+use Rattle.v_frame_streams.specs.Streams.{framed_bytes, header_bytes, most_frames, Framed, HasLine, ReadsFrames, ReadsHeaderLine}
 use Rattle.v_frame_streams.specs.declared.stream.Container.{Container}
 use Rattle.v_frame_streams.specs.declared.stream.Container.TheVariants.{Raw, Y4m}
 
@@ -31,12 +33,18 @@ cause_of (Stream (Planar Read)) last = last
 cause_of (Stream (Planar Write)) last = last
 cause_of _ last = None
 
+-- A failed read or write has a system error as its cause. No other problem has a cause.
+abbrev pub HasCause : Problem → Option ErrorKind → Type 0
+HasCause (Stream (Planar Read)) cause = IsSome cause
+HasCause (Stream (Planar Write)) cause = IsSome cause
+HasCause _ cause = cause ≡ None
+
 -- The error is at the first frame of a stream. It has no system error behind it, unless a read
 -- failed.
 pub record IsAtStart (which : Place) (error : StreamError) : Type 0 where
   pub place : error.place ≡ which
   pub frames : error.frames ≡ 0
-  pub cause : error.cause ≡ cause_of error.problem error.cause
+  pub cause : HasCause error.problem error.cause
 
 -- The request to a frame builder for a picture of this size and color.
 abbrev pub picture_request : ℕ → ℕ → Color → FrameRequest
@@ -61,7 +69,9 @@ module _ (start left : Option (List ℕ)) where
       (bytes : List ℕ) × IsLine bytes × (length bytes ≤ max_line_bytes)
       × Consumes start left bytes × IsAtEnd left
   StopsInHeaderLine NoFrame = ⊥
-  StopsInHeaderLine (Planar error) = error ≡ Read
+  StopsInHeaderLine (Planar error) =
+      (error ≡ Read) × (bytes : List ℕ) × (length bytes ≤ max_line_bytes)
+      × Consumes start left bytes
 
 -- A stream that begins with the bytes `start` cannot be opened.
 abbrev pub StopsOpening : Option (List ℕ) → Problem → Type 0
@@ -83,6 +93,20 @@ pub record Unread : Type 0 where
 abbrev pub FailsToRead : Unread → Unread → Problem → Type 0
 FailsToRead start left problem =
     (problem ≡ Stream (Planar Read)) × HasFailed start.failures left.failures
+
+module _ {W : Type 0} (contents : W → Option (List ℕ)) (old new : Watched W) where
+  -- These bytes could not be written: a write failed or accepted none of them, after a beginning of
+  -- the bytes was written.
+  abbrev pub FailsToWrite : List ℕ → Problem → Type 0
+  FailsToWrite bytes (Stream (Planar error)) = MayStopWriting contents old new bytes error
+  FailsToWrite bytes _ = ⊥
+
+  -- The header could not be written: a write failed, or a memory allocation failed before anything
+  -- was written. Raw video has no header line and allocates nothing.
+  abbrev pub FailsToWriteHeader : Container → StreamHeader → Problem → Type 0
+  FailsToWriteHeader to header problem =
+      ((to ≡ Y4m) × (problem ≡ Stream (Planar NoMemory)) × (new ≡ old))
+      ⊎ FailsToWrite (header_bytes to header) problem
 
 -- Some bytes of a frame of `count` bytes could not be read, after the first `before`. Either the
 -- stream ended inside the frame, and all bytes up to its end were read, or a read failed.

@@ -4,7 +4,7 @@ ghost use Rattle.v_frame.specs.Prelude.{one_byte, tables_of, two_bytes};
 ghost use Rattle.v_frame_planar.specs.Planar.{sizes_of};
 ghost use Rattle.v_frame_y4m.specs.Color.{depth_of};
 ghost use Rattle.v_frame_streams.specs.Comparisons.{errors_between, Adds, Compares, ComparesFrom, Watches, WatchesFrom};
-ghost use Rattle.v_frame_streams.specs.Formats.{HaveOneFormat};
+ghost use Rattle.v_frame_streams.specs.Formats.{HaveOneFormat, RefusesFormats};
 ghost use Rattle.v_frame_streams.specs.MadeFor.{IsMadeFor};
 ghost use Rattle.v_frame_streams.specs.Pictures.{sizes_in};
 ghost use Rattle.v_frame_streams.specs.Stops.{IsAtNextFrame, StopsComparison};
@@ -72,7 +72,8 @@ pub fn compare_streams<
         (bytes_left R.remaining first.old) (bytes_left R.remaining first.new)
         (bytes_left S.remaining second.old) (bytes_left S.remaining second.new) options.now) }
     ensures other_format { ¬ (HaveOneFormat first.old.header second.old.header)
-        → IfErr result (IsAtNextFrame second.new) }
+        → IfErr result (λ error. IsAtNextFrame second.new error
+        × RefusesFormats first.old.header second.old.header error.problem) }
     ensures told { IfOk result (λ found. TellsUpTo P.shows found.frames
         progress.old progress.new) }
     ensures bytes_taken { depth_of first.old.header.color ≡ 8 → IfOk result (WatchesFrom one_byte
