@@ -1,5 +1,5 @@
 //! Compares two streams frame by frame.
-ghost use Rattle.std.specs.Prelude.{◌≡◌, ◌≢◌, ◌⊎◌, ◌*◌, ◌≤◌, ◌<◌, IfErr, IfOk, None, OnOk};
+ghost use Rattle.std.specs.Prelude.{◌≡◌, ◌≢◌, ◌⊎◌, ◌*◌, ◌≤◌, ◌<◌, unwrap_or, IfErr, IfOk, None, OnOk};
 ghost use Rattle.v_frame.specs.Prelude.{one_byte, tables_of, two_bytes};
 ghost use Rattle.v_frame_planar.specs.Planar.{sizes_of};
 ghost use Rattle.v_frame_y4m.specs.Color.{depth_of};
@@ -74,6 +74,7 @@ pub fn compare_streams<
     ensures other_format { ¬ (HaveOneFormat first.old.header second.old.header)
         → IfErr result (λ error. IsAtNextFrame second.new error
         × RefusesFormats first.old.header second.old.header error.problem) }
+    ensures bound { IfOk result (λ found. found.frames ≤ unwrap_or options.now.count most_frames) }
     ensures told { IfOk result (λ found. TellsUpTo P.shows found.frames
         progress.old progress.new) }
     ensures bytes_taken { depth_of first.old.header.color ≡ 8 → IfOk result (WatchesFrom one_byte
@@ -114,6 +115,7 @@ fn compare_as<T: Pixel, R: io::Read, S: io::Read, O: FrameObserver<T>, P: Progre
         (stream_of first.old) (stream_of second.old) (bytes_left R.remaining first.old)
         (bytes_left R.remaining first.new) (bytes_left S.remaining second.old)
         (bytes_left S.remaining second.new) options.now) }
+    ensures bound { IfOk result (λ found. found.frames ≤ unwrap_or options.now.count most_frames) }
     ensures told { IfOk result (λ found. TellsUpTo P.shows found.frames
         progress.old progress.new) }
     ensures taken { IfOk result (WatchesFrom T.form (sizes_in first.old.header) O.takes
@@ -152,6 +154,7 @@ fn compare_frames<T: Pixel, R: io::Read, S: io::Read, O: FrameObserver<T>, P: Pr
         (stream_of first.old) (stream_of second.old) (bytes_left R.remaining first.old)
         (bytes_left R.remaining first.new) (bytes_left S.remaining second.old)
         (bytes_left S.remaining second.new) most) }
+    ensures bound { IfOk result (λ found. found.frames ≤ most) }
     ensures told { IfOk result (λ found. TellsUpTo P.shows found.frames
         progress.old progress.new) }
     ensures taken { IfOk result (Watches T.form (sizes_of (tables_of one.old.frame)) O.takes
