@@ -1,10 +1,10 @@
 -- The errors of opening and reading a stream, the request for a picture of it, and the system
 -- errors behind them.
-use Rattle.std.specs.Prelude.{ℕ, ◌≡◌, ◌+◌, ◌≤◌, ◌<◌, ◌⊎◌, Bool, List, [], ◌∷◌, ◌++◌, length, min, IsSome, Option, None}
+use Rattle.std.specs.Prelude.{ℕ, ◌≡◌, ◌+◌, ◌*◌, ◌≤◌, ◌<◌, ◌⊎◌, Bool, List, [], ◌∷◌, ◌++◌, length, min, IsSome, Option, None}
 use Rattle.std.specs.Io.KnownBytes.{Consumes, IsAtEnd}
 use Rattle.std.specs.declared.io.ErrorKind.{ErrorKind}
 use Rattle.v_frame.specs.Prelude.{usize_max, FrameRequest}
-use Rattle.v_frame_planar.specs.Video.{video_request}
+use Rattle.v_frame_planar.specs.Video.{video_refusal_of, video_request}
 use Rattle.v_frame_planar.specs.declared.error.PlanarError.TheVariants.{Read, Truncated, Write}
 use Rattle.v_frame_planar.specs.declared.error.PlanarError.TheVariants.{OutOfMemory as NoMemory}
 use Rattle.v_frame_planar.specs.Counted.{HasFailed, Watched}
@@ -20,7 +20,7 @@ use Rattle.v_frame_y4m.specs.declared.error.Y4mError.{Y4mError}
 use Rattle.v_frame_y4m.specs.declared.error.Y4mError.TheVariants.{Header, LineTooLong, NoFrame, Planar, UnfinishedLine}
 use Rattle.v_frame_y4m.specs.declared.header.StreamHeader.{StreamHeader}
 use Rattle.v_frame_streams.specs.declared.error.Problem.{Problem}
-use Rattle.v_frame_streams.specs.declared.error.Problem.TheVariants.{OutOfMemory, Stream, TooLarge}
+use Rattle.v_frame_streams.specs.declared.error.Problem.TheVariants.{OutOfMemory, Stream, TooLarge, TooManyPixels}
 use Rattle.v_frame_streams.specs.declared.error.StreamError.{StreamError}
 use Rattle.v_frame_streams.specs.declared.stream.Place.{Place}
 use Rattle.v_frame_streams.specs.Streams.{framed_bytes, header_bytes, most_frames, Framed, HasLine, ReadsFrames, ReadsHeaderLine}
@@ -50,6 +50,17 @@ pub record IsAtStart (which : Place) (error : StreamError) : Type 0 where
 abbrev pub picture_request : ℕ → ℕ → Color → FrameRequest
 picture_request width height color =
     video_request width height (subsampling_of color) (depth_of color) 0
+
+-- The reason why no picture of this size and color is allocated. `most` is the largest number of luma
+-- pixels, and a pixel has `bytes` bytes. A picture above the limit is rejected for this reason first.
+abbrev pub RefusesPicture : ℕ → ℕ → ℕ → ℕ → Color → Problem → Type 0
+RefusesPicture most bytes width height color (TooManyPixels limit) =
+    (limit ≡ most) × (most < width * height)
+RefusesPicture most bytes width height color TooLarge =
+    (width * height ≤ most)
+    × IsSome (video_refusal_of bytes (picture_request width height color))
+RefusesPicture most bytes width height color OutOfMemory = width * height ≤ most
+RefusesPicture most bytes width height color _ = ⊥
 
 -- A frame has at least one byte, and no more than `usize` can count.
 pub record HasLength (header : StreamHeader) : Type 0 where

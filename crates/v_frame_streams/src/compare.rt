@@ -7,7 +7,7 @@ ghost use Rattle.v_frame_streams.specs.Comparisons.{errors_between, Adds, Compar
 ghost use Rattle.v_frame_streams.specs.Formats.{HaveOneFormat, RefusesFormats};
 ghost use Rattle.v_frame_streams.specs.MadeFor.{IsMadeFor};
 ghost use Rattle.v_frame_streams.specs.Pictures.{sizes_in};
-ghost use Rattle.v_frame_streams.specs.Stops.{IsAtNextFrame, StopsComparison};
+ghost use Rattle.v_frame_streams.specs.Stops.{FailsAtEither, FailsToCompare, FailsToCompareAs, IsAtNextFrame, StopsComparison};
 ghost use Rattle.v_frame_streams.specs.Sources.{bytes_left, stream_of};
 ghost use Rattle.v_frame_streams.specs.Streams.{most_frames};
 ghost use Rattle.v_frame_streams.specs.Telling.{TellsUpTo};
@@ -87,6 +87,10 @@ pub fn compare_streams<
         (stream_of first.old) (stream_of second.old)
         (bytes_left R.remaining first.old) (bytes_left R.remaining first.new)
         (bytes_left S.remaining second.old) (bytes_left S.remaining second.new) options.now) }
+    ensures problem { IfErr result (λ error.
+        FailsToCompare R.remaining S.remaining first.new second.new options.now.max_pixels error.problem
+        ⊎ (⟦<O as FrameObserver<u8>>⟧.stops observer.new error
+        ⊎ ⟦<O as FrameObserver<u16>>⟧.stops observer.new error)) }
     ensures stopped { IfErr result (λ error. StopsComparison first.new second.new error
         ⊎ (⟦<O as FrameObserver<u8>>⟧.stops observer.new error
         ⊎ ⟦<O as FrameObserver<u16>>⟧.stops observer.new error)) }
@@ -122,6 +126,9 @@ fn compare_as<T: Pixel, R: io::Read, S: io::Read, O: FrameObserver<T>, P: Progre
         observer.old observer.new (stream_of first.old) (stream_of second.old)
         (bytes_left R.remaining first.old) (bytes_left R.remaining first.new)
         (bytes_left S.remaining second.old) (bytes_left S.remaining second.new) options.now) }
+    ensures problem { IfErr result (λ error.
+        FailsToCompareAs R.remaining S.remaining first.new second.new options.now.max_pixels T.BYTES error.problem
+        ⊎ O.stops observer.new error) }
     ensures stopped { IfErr result (λ error. StopsComparison first.new second.new error
         ⊎ O.stops observer.new error) }
     ensures same { stream_of first.new ≡ stream_of first.old }
@@ -161,6 +168,9 @@ fn compare_frames<T: Pixel, R: io::Read, S: io::Read, O: FrameObserver<T>, P: Pr
         observer.old observer.new (stream_of first.old) (stream_of second.old)
         (bytes_left R.remaining first.old) (bytes_left R.remaining first.new)
         (bytes_left S.remaining second.old) (bytes_left S.remaining second.new) most) }
+    ensures problem { IfErr result (λ error.
+        FailsAtEither R.remaining S.remaining first.new second.new error.problem
+        ⊎ O.stops observer.new error) }
     ensures stopped { IfErr result (λ error. StopsComparison first.new second.new error
         ⊎ O.stops observer.new error) }
     ensures same { stream_of first.new ≡ stream_of first.old }

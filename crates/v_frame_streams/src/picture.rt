@@ -7,8 +7,8 @@ ghost use Rattle.v_frame_planar.specs.Video.{chroma_sizes_of, video_refusal_of};
 ghost use Rattle.v_frame_y4m.specs.Color.{depth_of, subsampling_of};
 ghost use Rattle.v_frame_y4m.specs.Frames.{pixel_bytes};
 ghost use Rattle.v_frame_streams.specs.Conversions.{format_in, format_of, sizes_laid_out, LayoutFits};
-ghost use Rattle.v_frame_streams.specs.Errors.{picture_request, StopsAtFrame, StopsFrame};
-ghost use Rattle.v_frame_streams.specs.Stops.{IsAtNextFrame};
+ghost use Rattle.v_frame_streams.specs.Errors.{picture_request, RefusesPicture, StopsAtFrame, StopsFrame};
+ghost use Rattle.v_frame_streams.specs.Stops.{IsAtNextFrame, RefusesPictureOf};
 ghost use Rattle.v_frame_streams.specs.MadeFor.{IsMadeFor};
 ghost use Rattle.v_frame_streams.specs.Nth.{ReadsNth};
 ghost use Rattle.v_frame_streams.specs.Pictures.{sizes_in, tables_in_layout, tables_of_bytes, AreEven, IsEven, ReadsTables};
@@ -65,6 +65,7 @@ impl<T: Pixel> Picture<T> {
             → MatchOption (video_refusal_of T.BYTES (picture_request header.width header.height header.color))
             (IfErr result (λ error. error.problem ≡ Problem.OutOfMemory))
             (λ _. IsErrAnd result (λ error. error.problem ≡ Problem.TooLarge)) }
+        ensures problem { IfErr result (λ error. RefusesPictureOf max_pixels T.BYTES source.now.header error.problem) }
         ensures stopped { IfErr result (IsAtNextFrame source.now) }
     {
         let header = source.header();
@@ -212,6 +213,7 @@ pub(crate) fn blank_frame<T: Pixel>(
     ensures refused { width * height ≤ max_pixels
         → MatchOption (video_refusal_of T.BYTES (picture_request width height color))
         (IsOkUnless result Problem.OutOfMemory) (λ _. result ≡ Err Problem.TooLarge) }
+    ensures problem { IfErr result (RefusesPicture max_pixels T.BYTES width height color) }
 {
     match width.checked_mul(height) {
         Some(pixels) if pixels <= max_pixels => {}
