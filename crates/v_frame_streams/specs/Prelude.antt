@@ -8,7 +8,7 @@ pub use Rattle.v_frame_streams.specs.Conversions.{is_same_color, layout_to, Form
 pub use Rattle.v_frame_streams.specs.Layouts.{is_same_layout, HoldsColor}
 pub use Rattle.v_frame_streams.specs.Copies.{copied_bytes, copied_header, edit_of, is_plain, kept, limit_of, made_stream}
 pub use Rattle.v_frame_streams.specs.Copies.{copied_extensions, plan_for, taken, without_format}
-pub use Rattle.v_frame_streams.specs.Copies.{Copies, CopiesBy}
+pub use Rattle.v_frame_streams.specs.Copies.{CanCopy, Copies, CopiesBy, RefusesCopy}
 pub use Rattle.v_frame_streams.specs.Crops.{cropped, cut, HasPart, IsUnpadded, IsPart, IsTakable, RefusesCrop, RefusesFrame, RefusesPart}
 pub use Rattle.v_frame_streams.specs.Edits.{beside, edited, edited_table, halved_size, halved_table, EditFits}
 pub use Rattle.v_frame_streams.specs.Errors.{cause_of, picture_request, FailsToRead, FailsToWrite, FailsToWriteHeader, HasCause, HasLength, IsAtStart, RefusesPicture, StopsAtFrame, StopsFrame, StopsInside, StopsOpening, Unread}
