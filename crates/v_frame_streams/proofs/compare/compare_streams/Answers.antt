@@ -23,6 +23,6 @@ returns-clause-problem g c =
     ap (λ (b : Bool). if b then 1 else 2) (ne_eqb depth 8 (λ eight. c.if-bit_depth-eq8.false (told ∙ sym same ∙ eight))) in
     IfErr-weaker c.compare_as-2.result _ _ (λ e fails. elim fails [
       | inl reason ↦ inl (inr (subst (λ (n : ℕ). FailsToCompareAs g.R.Read.remaining g.S.Read.remaining first second
-        c.args.options.now.max_pixels n e.problem) (sym bytes) reason))
+          c.args.options.now.max_pixels n e.problem) (sym bytes) reason))
       | inr observer ↦ inr (inr observer)
     ]) c.compare_as-2.ensures.problem
