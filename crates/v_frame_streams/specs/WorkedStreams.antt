@@ -3,7 +3,8 @@ use Rattle.std.specs.Prelude.{ℕ, ◌≡◌, ◌<◌, [], ◌∷◌, List, Opti
 use Rattle.v_frame_y4m.specs.declared.color.Color.TheVariants.{Yuv420, Yuv420Mpeg2, Yuv422}
 use Rattle.v_frame_y4m.specs.declared.error.Y4mError.TheVariants.{Planar}
 use Rattle.v_frame_streams.specs.Conversions.{color_in}
-use Rattle.v_frame_streams.specs.Copies.{kept}
+use Rattle.v_frame_streams.specs.Copies.{kept, taken, RefusesCopy}
+use Rattle.v_frame_streams.specs.Crops.{IsTakable}
 use Rattle.v_frame_streams.specs.Edits.{beside, halved_size}
 use Rattle.v_frame_streams.specs.Errors.{cause_of, FailsToWrite, HasCause, RefusesPicture, StopsFrame}
 use Rattle.std.specs.declared.io.ErrorKind.TheVariants.{TimedOut}
@@ -15,9 +16,12 @@ use Rattle.v_frame_semi_planar.specs.declared.format.SemiPlanarFormat.TheVariant
 use Rattle.v_frame_streams.specs.Pictures.{tables_of_bytes, Sizes}
 use Rattle.v_frame_streams.specs.Streams.{stream_bytes, written_bytes}
 use Rattle.v_frame_streams.specs.declared.error.Problem.TheVariants.{EmptyCrop, Stream, TooManyPixels}
-use Rattle.v_frame_streams.specs.declared.stream.Container.TheVariants.{Raw}
+use Rattle.v_frame_streams.specs.declared.error.Problem.TheVariants.{SemiPlanar as NoSemiPlanar}
+use Rattle.v_frame_streams.specs.declared.options.CopyOptions.{CopyOptions}
+use Rattle.v_frame_streams.specs.declared.stream.Container.TheVariants.{Raw, Y4m}
 use Rattle.v_frame_formats.specs.Sums.{added}
-use Rattle.v_frame_formats.specs.declared.format.VideoFormat.TheVariants.{Planar}
+use Rattle.v_frame_formats.specs.declared.format.VideoFormat.TheVariants.{Planar, SemiPlanar}
+use Rattle.v_frame_y4m.specs.declared.header.StreamHeader.{StreamHeader}
 
 -- Half of 854 columns are 427, and half of these are 214, rounded up.
 half_of_even : halved_size true 854 ≡ 427
@@ -46,6 +50,23 @@ taken_frames : kept
     (([], 1 ∷ []) ∷ ([], 2 ∷ []) ∷ ([], 3 ∷ []) ∷ [])
     ≡ ([], 2 ∷ []) ∷ []
 taken_frames = refl
+
+-- A YUV4MPEG2 stream takes no frames in NV12, whatever the source is.
+abbrev to_nv12 : CopyOptions
+to_nv12 = record {
+  skip = 0;
+  count = None;
+  crop = None;
+  half = false;
+  format = Some (SemiPlanar Nv12);
+  frame_rate = None;
+  pixel_aspect = None;
+  max_pixels = 9;
+}
+
+nv12_is_rejected : (header : StreamHeader) → IsTakable (taken to_nv12 header) header
+    → RefusesCopy Y4m to_nv12 header NoSemiPlanar
+nv12_is_rejected header takable = (takable, refl, refl)
 
 -- If the chroma format does not change, the siting of the source is kept.
 siting_stays : color_in (Some (Planar Yuv420)) Yuv420Mpeg2 ≡ Yuv420Mpeg2
