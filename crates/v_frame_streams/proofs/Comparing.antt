@@ -1,5 +1,5 @@
 -- One more pair of frames of two streams.
-use Rattle.std.proofs.Common.{ℕ, ◌≡◌, ◌+◌, List, [], ◌∷◌, ◌++◌, length, map, Option, refl, sym, ◌∙◌, ap, subst}
+use Rattle.std.proofs.Common.{ℕ, ◌≡◌, ◌+◌, ◌<◌, List, [], ◌∷◌, ◌++◌, length, map, Option, refl, sym, ◌∙◌, ap, subst}
 use Rattle.std.proofs.Common.{arith, length-append, inl, inr, Bool, false}
 use Rattle.std.specs.Prelude.{◌↔◌, ◌⊎◌, Some, None, IfSome, IsNone}
 use Rattle.std.proofs.lemmas.List.{append_assoc, length-map, map-append}
@@ -127,13 +127,13 @@ module _ {T : Type 0} (form : PixelForm T) where
           }
 
       -- One stream or both ended.
-      pub compared_to_end : (most : ℕ) (longer : Option Place) (more also : Bool)
+      pub compared_to_end : (most : ℕ) → found.frames < most → (longer : Option Place) (more also : Bool)
           → ReadsWhole mid_left left' one.container one.frame_len more
           → ReadsWhole far right' other.container other.frame_len also
           → longer ≡ longer_of more also → (more ≡ false) ⊎ (also ≡ false)
           → Compares form size one other left left' right right' most
           (record { frames = found.frames; errors = found.errors; difference = found.difference; longer = longer })
-      compared_to_end most longer more also read also_read told shorter = record {
+      compared_to_end most fewer longer more also read also_read told shorter = record {
         mid = mid_left;
         far = far;
         compared = record {
@@ -144,7 +144,8 @@ module _ {T : Type 0} (form : PixelForm T) where
           first = before.first;
           second = before.second;
         };
-        ends = inr (more, also, read, also_read, told, shorter);
+        bound = omega (arith, fewer);
+        ends = inr (fewer, more, also, read, also_read, told, shorter);
       }
 
       -- One more pair of frames was compared, and the observer received it.
@@ -170,15 +171,15 @@ module _ {T : Type 0} (form : PixelForm T) where
       -- One stream or both ended, and the observer received the pairs before.
       pub watched_to_end : {A : Type 0} (takes : A → A → Tables T → Tables T → PlaneSums → Type 0) (old new : A)
           → TakesEach form takes (map (shown form size one.layout other.layout) before.frames) old new
-          → (most : ℕ) (longer : Option Place) (more also : Bool)
+          → (most : ℕ) → found.frames < most → (longer : Option Place) (more also : Bool)
           → ReadsWhole mid_left left' one.container one.frame_len more
           → ReadsWhole far right' other.container other.frame_len also
           → longer ≡ longer_of more also → (more ≡ false) ⊎ (also ≡ false)
           → Watches form size takes old new one other left left' right right' most
           (record { frames = found.frames; errors = found.errors; difference = found.difference; longer = longer })
       unfolding compared_to_end
-      watched_to_end takes old new taken most longer more also read also_read told shorter =
-          (compared_to_end most longer more also read also_read told shorter, taken)
+      watched_to_end takes old new taken most fewer longer more also read also_read told shorter =
+          (compared_to_end most fewer longer more also read also_read told shorter, taken)
 
     -- The requested number of pairs was compared.
     pub watched_all : {A : Type 0} (takes : A → A → Tables T → Tables T → PlaneSums → Type 0) (old new : A)
@@ -187,6 +188,12 @@ module _ {T : Type 0} (form : PixelForm T) where
         → found.frames ≡ most → found.longer ≡ None
         → Watches form size takes old new one other left left' right right' most found
     watched_all takes old new left left' right right' most found all whole none = (
-      record { mid = left'; far = right'; compared = all.0; ends = inl (whole, refl, refl, none) },
+      record {
+        mid = left';
+        far = right';
+        compared = all.0;
+        bound = omega (arith, whole);
+        ends = inl (whole, refl, refl, none);
+      },
       all.1,
     )

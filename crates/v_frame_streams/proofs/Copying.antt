@@ -101,6 +101,7 @@ module _ (from : Container) (count : ℕ) where
         record {
           frames = first ++ second;
           read = two_reads left mid left' first second passed.read carried.read;
+          bound = omega (arith, long, carried.bound);
           ends = elim carried.ends [
             | inl whole ↦ inl (long ∙ ap (λ (n : ℕ). options.skip + n) whole)
             | inr ended ↦ inr ended
@@ -120,6 +121,7 @@ module _ (from : Container) (count : ℕ) where
         record {
           frames = first;
           read = passed.read;
+          bound = omega (arith, passed.counted, fewer);
           ends = elim passed.ends [ inl whole ↦ absurd (omega (arith, whole, fewer)) | inr ended ↦ inr ended ];
           counted = ap length none;
           written = subst (λ (frames : List Framed). Appends has now (header_bytes to header ++ made_stream to made frames))

@@ -17,12 +17,12 @@ module _ {R : Type 0} (remaining : R → Option (List ℕ)) (old new : Watched R
   pub opening_stops : (error : Y4mError) → MayStopInLaxHeader remaining old new error
       → StopsOpening (remaining old.inner) (Stream error)
   opening_stops (Header error) stops =
-      (remaining new.inner, (stops.0.0, stops.0.1, stops.0.2, stops.0.4))
+      (remaining new.inner, (stops.0.0, stops.0.1, stops.0.2, stops.0.3, stops.0.4))
   opening_stops LineTooLong stops = (remaining new.inner, (stops.0.0, stops.0.2, stops.0.3, stops.0.1))
   opening_stops UnfinishedLine stops =
       (remaining new.inner, (stops.0.0, stops.0.2, stops.0.3, stops.0.1, stops.1))
   opening_stops NoFrame stops = (remaining new.inner, stops)
-  opening_stops (Planar error) stops = (remaining new.inner, stops.0)
+  opening_stops (Planar error) stops = (remaining new.inner, (stops.0, stops.1.0, stops.1.2, stops.1.1))
 
   pub line_stops : (count : ℕ) (error : Y4mError) → MayStopInLaxFrameLine remaining old new error
       → StopsFrame Y4m (unread remaining old) (unread remaining new) count (Stream error)
@@ -30,7 +30,7 @@ module _ {R : Type 0} (remaining : R → Option (List ℕ)) (old new : Watched R
   line_stops count LineTooLong stops = (refl, (stops.0.0, stops.0.2, stops.0.3, stops.0.1))
   line_stops count UnfinishedLine stops =
       (refl, stops.0.0, stops.0.2, stops.0.3, stops.0.4, stops.0.1, stops.1)
-  line_stops count NoFrame stops = (refl, stops.0.0, stops.0.1, stops.0.2, stops.0.4)
+  line_stops count NoFrame stops = (refl, stops.0.0, stops.0.1, stops.0.2, stops.0.3, stops.0.4)
   line_stops count (Planar error) stops =
       subst (λ (e : PlanarError). StopsFrame Y4m (unread remaining old) (unread remaining new) count (Stream (Planar e)))
       (sym stops.0) (refl, stops.2)

@@ -1,5 +1,5 @@
 -- The comparison of two streams, up to the end of the shorter one.
-use Rattle.std.specs.Prelude.{ℕ, ◌≡◌, ◌+◌, ◌↔◌, ◌⊎◌, All, Bool, false, List, [], ◌∷◌, ◌++◌, fold, length, map}
+use Rattle.std.specs.Prelude.{ℕ, ◌≡◌, ◌+◌, ◌<◌, ◌≤◌, ◌↔◌, ◌⊎◌, All, Bool, false, List, [], ◌∷◌, ◌++◌, fold, length, map}
 use Rattle.std.specs.Prelude.{Option, Some, None, IfSome, IsNone, unwrap_or}
 use Rattle.v_frame.specs.Prelude.{PixelForm, Tables}
 use Rattle.v_frame_semi_planar.specs.declared.format.SemiPlanarFormat.{SemiPlanarFormat}
@@ -84,15 +84,18 @@ module _ {T : Type 0} (form : PixelForm T) where
         pub second : ReadsFrames right right' other.container other.frame_len
             (map (λ f. f.1) frames)
 
-    -- At most `most` pairs of frames were compared. If there were fewer, at least one of the
-    -- streams ended, and one more frame of the longer stream was read.
+    -- At most `most` pairs of frames were compared. If exactly `most` were, nothing after them was
+    -- read, and neither stream is called longer. If there were fewer, at least one of the streams
+    -- ended, and one more frame of the longer stream was read.
     pub record Compares (one other : Stream) (left left' right right' : Option (List ℕ)) (most : ℕ)
         (found : Comparison) : Type 0 where
       pub mid : Option (List ℕ)
       pub far : Option (List ℕ)
       pub compared : ComparesFrames one other left mid right far found
+      pub bound : found.frames ≤ most
       pub ends : ((found.frames ≡ most) × (mid ≡ left') × (far ≡ right') × (found.longer ≡ None))
-          ⊎ ((more : Bool) × (also : Bool) × ReadsWhole mid left' one.container one.frame_len more
+          ⊎ ((found.frames < most)
+          × (more : Bool) × (also : Bool) × ReadsWhole mid left' one.container one.frame_len more
           × ReadsWhole far right' other.container other.frame_len also
           × (found.longer ≡ longer_of more also) × ((more ≡ false) ⊎ (also ≡ false)))
 

@@ -1,15 +1,17 @@
 -- The output of a copy.
 use Rattle.std.specs.Prelude.{ℕ, ◌≡◌, ◌+◌, ◌<◌, ◌≤◌, ◌⊎◌, ◌++◌, ◌&&◌, if◌then◌else◌, Bool, true, false, List}
-use Rattle.std.specs.Prelude.{[], ◌∷◌, codes, drop, filter, flat_map, is_none, length, nat_eq, not, refl, take, Option, Some, None, unwrap_or}
+use Rattle.std.specs.Prelude.{[], ◌∷◌, codes, drop, filter, flat_map, is_none, IsSome, length, nat_eq, not, refl, take, Option, Some, None, unwrap_or}
 use Rattle.std.specs.List.{starts_with}
 use Rattle.std.specs.Io.KnownBytes.{Appends, Consumes, IsAtEnd}
 use Rattle.v_frame.specs.Prelude.{PixelForm}
 use Rattle.v_frame_planar.specs.Video.{ratio_or_one}
 use Rattle.v_frame_y4m.specs.Color.{depth_of, subsampling_of}
+use Rattle.v_frame_y4m.specs.Header.{IsWritable}
 use Rattle.v_frame_semi_planar.specs.declared.format.SemiPlanarFormat.{SemiPlanarFormat}
 use Rattle.v_frame_y4m.specs.declared.header.StreamHeader.{StreamHeader}
 use Rattle.v_frame_streams.specs.Conversions.{color_in, form_of, format_in, is_same_color, is_same_format}
-use Rattle.v_frame_streams.specs.Conversions.{layout_to}
+use Rattle.v_frame_streams.specs.Conversions.{layout_in, layout_to}
+use Rattle.v_frame_streams.specs.Crops.{IsTakable, RefusesCrop}
 use Rattle.v_frame_streams.specs.Layouts.{is_same_layout}
 use Rattle.v_frame_streams.specs.Edits.{beside, halved_size}
 use Rattle.v_frame_streams.specs.Pictures.{sizes_in, tables_of_bytes}
@@ -19,7 +21,10 @@ use Rattle.v_frame_streams.specs.Streams.{framed_bytes, CountsFrames, IsFrame}
 use Rattle.v_frame_streams.specs.declared.edit.Edit.{Edit}
 use Rattle.v_frame_formats.specs.declared.rectangle.Rectangle.{Rectangle}
 use Rattle.v_frame_streams.specs.declared.options.CopyOptions.{CopyOptions}
+use Rattle.v_frame_streams.specs.declared.error.Problem.{Problem}
+use Rattle.v_frame_streams.specs.declared.error.Problem.TheVariants.{OutOfMemory, SemiPlanar, Unwritable}
 use Rattle.v_frame_streams.specs.declared.stream.Container.{Container}
+use Rattle.v_frame_streams.specs.declared.stream.Container.TheVariants.{Y4m}
 
 -- The largest number of frames that a copy writes.
 abbrev pub limit_of : CopyOptions → ℕ
@@ -78,6 +83,24 @@ copied_header options header =
       color = color_in options.format header.color;
       extensions = copied_extensions options header;
     }
+
+-- The options allow a copy of a stream with this header to this container: the crop fits its
+-- pictures, and the output is planar and has a writable header if it is a YUV4MPEG2 stream.
+pub record CanCopy (to : Container) (options : CopyOptions) (header : StreamHeader) : Type 0 where
+  pub takable : IsTakable (taken options header) header
+  pub planar : to ≡ Y4m → layout_in options.format ≡ None
+  pub writable : to ≡ Y4m → IsWritable (copied_header options header)
+
+-- The reason why such a copy is rejected before anything is read or written. The first reason that
+-- applies is reported, but a memory allocation may fail before the last two are tested.
+abbrev pub RefusesCopy : Container → CopyOptions → StreamHeader → Problem → Type 0
+RefusesCopy to options header OutOfMemory = IsTakable (taken options header) header
+RefusesCopy to options header SemiPlanar =
+    IsTakable (taken options header) header × (to ≡ Y4m) × IsSome (layout_in options.format)
+RefusesCopy to options header Unwritable =
+    IsTakable (taken options header) header × (to ≡ Y4m) × (layout_in options.format ≡ None)
+    × ¬ (IsWritable (copied_header options header))
+RefusesCopy to options header problem = RefusesCrop (taken options header) header problem
 
 -- A copy writes the frames of the source, which have this layout, unchanged.
 abbrev pub is_plain : Container → CopyOptions → StreamHeader → Option SemiPlanarFormat → Bool
@@ -144,12 +167,14 @@ module _ (from : Container) (count : ℕ) (left left' has has' : Option (List �
       × Appends has has' (written_bytes to frame.1)
   MovesNext to false = Consumes left left' [] × IsAtEnd left' × Appends has has' []
 
-  -- The source was copied: `frames` are the frames read, and no more than requested. The header was
-  -- written, followed by the frames made from those that are kept.
+  -- The source was copied: `frames` are the frames read, at most those skipped and those requested.
+  -- If there were fewer, the source ended. The header was written, followed by the frames made from
+  -- those that are kept.
   pub record CopiesBy (to : Container) (options : CopyOptions) (header : StreamHeader)
       (made : List ℕ → List ℕ) (found : ℕ) : Type 0 where
     pub frames : List Framed
     pub read : ReadsFrames left left' from count frames
+    pub bound : length frames ≤ options.skip + limit_of options
     pub ends : (length frames ≡ options.skip + limit_of options) ⊎ IsAtEnd left'
     pub counted : length (kept options frames) ≡ found
     pub written : Appends has has'

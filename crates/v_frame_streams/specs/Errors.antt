@@ -1,12 +1,14 @@
 -- The errors of opening and reading a stream, the request for a picture of it, and the system
 -- errors behind them.
-use Rattle.std.specs.Prelude.{ℕ, ◌≡◌, ◌+◌, ◌≤◌, ◌<◌, Bool, List, [], ◌∷◌, ◌++◌, length, min, Option, None}
+use Rattle.std.specs.Prelude.{ℕ, ◌≡◌, ◌+◌, ◌*◌, ◌≤◌, ◌<◌, ◌⊎◌, Bool, List, [], ◌∷◌, ◌++◌, length, min, IsSome, Option, None}
 use Rattle.std.specs.Io.KnownBytes.{Consumes, IsAtEnd}
 use Rattle.std.specs.declared.io.ErrorKind.{ErrorKind}
 use Rattle.v_frame.specs.Prelude.{usize_max, FrameRequest}
-use Rattle.v_frame_planar.specs.Video.{video_request}
+use Rattle.v_frame_planar.specs.Video.{video_refusal_of, video_request}
 use Rattle.v_frame_planar.specs.declared.error.PlanarError.TheVariants.{Read, Truncated, Write}
-use Rattle.v_frame_planar.specs.Counted.{HasFailed}
+use Rattle.v_frame_planar.specs.declared.error.PlanarError.TheVariants.{OutOfMemory as NoMemory}
+use Rattle.v_frame_planar.specs.Counted.{HasFailed, Watched}
+use Rattle.v_frame_planar.specs.Planar.{MayStopWriting}
 use Rattle.v_frame_y4m.specs.Ascii.{line_feed}
 use Rattle.v_frame_y4m.specs.Color.{depth_of, subsampling_of}
 use Rattle.v_frame_y4m.specs.Faults.{IsRefusedFor}
@@ -18,10 +20,10 @@ use Rattle.v_frame_y4m.specs.declared.error.Y4mError.{Y4mError}
 use Rattle.v_frame_y4m.specs.declared.error.Y4mError.TheVariants.{Header, LineTooLong, NoFrame, Planar, UnfinishedLine}
 use Rattle.v_frame_y4m.specs.declared.header.StreamHeader.{StreamHeader}
 use Rattle.v_frame_streams.specs.declared.error.Problem.{Problem}
-use Rattle.v_frame_streams.specs.declared.error.Problem.TheVariants.{OutOfMemory, Stream, TooLarge}
+use Rattle.v_frame_streams.specs.declared.error.Problem.TheVariants.{OutOfMemory, Stream, TooLarge, TooManyPixels}
 use Rattle.v_frame_streams.specs.declared.error.StreamError.{StreamError}
 use Rattle.v_frame_streams.specs.declared.stream.Place.{Place}
-use Rattle.v_frame_streams.specs.Streams.{framed_bytes, most_frames, Framed, HasLine, ReadsFrames, ReadsHeaderLine}
+use Rattle.v_frame_streams.specs.Streams.{framed_bytes, header_bytes, most_frames, Framed, HasLine, ReadsFrames, ReadsHeaderLine}
 use Rattle.v_frame_streams.specs.declared.stream.Container.{Container}
 use Rattle.v_frame_streams.specs.declared.stream.Container.TheVariants.{Raw, Y4m}
 
@@ -31,17 +33,34 @@ cause_of (Stream (Planar Read)) last = last
 cause_of (Stream (Planar Write)) last = last
 cause_of _ last = None
 
+-- A failed read or write has a system error as its cause. No other problem has a cause.
+abbrev pub HasCause : Problem → Option ErrorKind → Type 0
+HasCause (Stream (Planar Read)) cause = IsSome cause
+HasCause (Stream (Planar Write)) cause = IsSome cause
+HasCause _ cause = cause ≡ None
+
 -- The error is at the first frame of a stream. It has no system error behind it, unless a read
 -- failed.
 pub record IsAtStart (which : Place) (error : StreamError) : Type 0 where
   pub place : error.place ≡ which
   pub frames : error.frames ≡ 0
-  pub cause : error.cause ≡ cause_of error.problem error.cause
+  pub cause : HasCause error.problem error.cause
 
 -- The request to a frame builder for a picture of this size and color.
 abbrev pub picture_request : ℕ → ℕ → Color → FrameRequest
 picture_request width height color =
     video_request width height (subsampling_of color) (depth_of color) 0
+
+-- The reason why no picture of this size and color is allocated. `most` is the largest number of luma
+-- pixels, and a pixel has `bytes` bytes. A picture above the limit is rejected for this reason first.
+abbrev pub RefusesPicture : ℕ → ℕ → ℕ → ℕ → Color → Problem → Type 0
+RefusesPicture most bytes width height color (TooManyPixels limit) =
+    (limit ≡ most) × (most < width * height)
+RefusesPicture most bytes width height color TooLarge =
+    (width * height ≤ most)
+    × IsSome (video_refusal_of bytes (picture_request width height color))
+RefusesPicture most bytes width height color OutOfMemory = width * height ≤ most
+RefusesPicture most bytes width height color _ = ⊥
 
 -- A frame has at least one byte, and no more than `usize` can count.
 pub record HasLength (header : StreamHeader) : Type 0 where
@@ -53,7 +72,7 @@ module _ (start left : Option (List ℕ)) where
   abbrev pub StopsInHeaderLine : Y4mError → Type 0
   StopsInHeaderLine (Header error) =
       (line : List ℕ) × IsRefusedFor (strict_line line) error × IsLine line
-      × Consumes start left (line ++ line_feed ∷ [])
+      × (length line ≤ max_line_bytes) × Consumes start left (line ++ line_feed ∷ [])
   StopsInHeaderLine LineTooLong =
       (bytes : List ℕ) × IsLine bytes × (length bytes ≡ max_line_bytes + 1)
       × Consumes start left bytes
@@ -61,7 +80,9 @@ module _ (start left : Option (List ℕ)) where
       (bytes : List ℕ) × IsLine bytes × (length bytes ≤ max_line_bytes)
       × Consumes start left bytes × IsAtEnd left
   StopsInHeaderLine NoFrame = ⊥
-  StopsInHeaderLine (Planar error) = error ≡ Read
+  StopsInHeaderLine (Planar error) =
+      (error ≡ Read) × (bytes : List ℕ) × (length bytes ≤ max_line_bytes)
+      × Consumes start left bytes
 
 -- A stream that begins with the bytes `start` cannot be opened.
 abbrev pub StopsOpening : Option (List ℕ) → Problem → Type 0
@@ -84,6 +105,20 @@ abbrev pub FailsToRead : Unread → Unread → Problem → Type 0
 FailsToRead start left problem =
     (problem ≡ Stream (Planar Read)) × HasFailed start.failures left.failures
 
+module _ {W : Type 0} (contents : W → Option (List ℕ)) (old new : Watched W) where
+  -- These bytes could not be written: a write failed or accepted none of them, after a beginning of
+  -- the bytes was written.
+  abbrev pub FailsToWrite : List ℕ → Problem → Type 0
+  FailsToWrite bytes (Stream (Planar error)) = MayStopWriting contents old new bytes error
+  FailsToWrite bytes _ = ⊥
+
+  -- The header could not be written: a write failed, or a memory allocation failed before anything
+  -- was written. Raw video has no header line and allocates nothing.
+  abbrev pub FailsToWriteHeader : Container → StreamHeader → Problem → Type 0
+  FailsToWriteHeader to header problem =
+      ((to ≡ Y4m) × (problem ≡ Stream (Planar NoMemory)) × (new ≡ old))
+      ⊎ FailsToWrite (header_bytes to header) problem
+
 -- Some bytes of a frame of `count` bytes could not be read, after the first `before`. Either the
 -- stream ended inside the frame, and all bytes up to its end were read, or a read failed.
 abbrev pub StopsInside : ℕ → Unread → Unread → ℕ → Problem → Type 0
@@ -103,7 +138,7 @@ StopsFrame from start left count (Stream UnfinishedLine) =
     × Consumes start.bytes left.bytes bytes × IsAtEnd left.bytes
 StopsFrame from start left count (Stream NoFrame) =
     (from ≡ Y4m)
-    × (line : List ℕ) × ¬ (IsLaxFrameLine line) × IsLine line
+    × (line : List ℕ) × ¬ (IsLaxFrameLine line) × IsLine line × (length line ≤ max_line_bytes)
     × Consumes start.bytes left.bytes (line ++ line_feed ∷ [])
 StopsFrame from start left count (Stream (Planar (Truncated expected found))) =
     (expected ≡ count) × (found < count) × (from ≡ Raw → 0 < found)

@@ -5,7 +5,7 @@ use Rattle.std.specs.Io.KnownBytes.{Consumes, IsAtEnd}
 use Rattle.v_frame_y4m.specs.Ascii.{line_feed}
 use Rattle.v_frame_y4m.specs.Header.{header_line, IsHeader}
 use Rattle.v_frame_y4m.specs.Lax.{strict_line, IsLaxFrameLine}
-use Rattle.v_frame_y4m.specs.Streams.{IsLine}
+use Rattle.v_frame_y4m.specs.Streams.{max_line_bytes, IsLine}
 use Rattle.v_frame_y4m.specs.declared.header.StreamHeader.{StreamHeader}
 use Rattle.v_frame_streams.specs.declared.stream.Container.{Container}
 use Rattle.v_frame_streams.specs.declared.stream.Container.TheVariants.{Y4m, Raw}
@@ -21,9 +21,9 @@ most_frames = 2 ^ 64 - 1
 abbrev pub Framed : Type 0
 Framed = List ℕ × List ℕ
 
--- The line is valid in front of a frame. It may be lax.
+-- The line is valid in front of a frame. It may be lax, and it is limited to `max_line_bytes`.
 abbrev pub HasLine : Container → List ℕ → Type 0
-HasLine Y4m line = IsLaxFrameLine line × IsLine line
+HasLine Y4m line = IsLaxFrameLine line × IsLine line × (length line ≤ max_line_bytes)
 HasLine Raw line = line ≡ []
 
 -- The bytes of a frame with its line.
@@ -66,18 +66,19 @@ longer_of false true = Some Second
 longer_of _ _ = None
 
 module _ (left left' : Option (List ℕ)) where
-  -- A header line was read, with its line feed. Its strict line states this header, and `lax` says
-  -- whether the line differs from its strict line.
+  -- A header line of at most `max_line_bytes` was read, with its line feed. Its strict line states
+  -- this header, and `lax` says whether the line differs from its strict line.
   abbrev pub ReadsHeaderLine : StreamHeader → Bool → Type 0
   ReadsHeaderLine header lax =
       (line : List ℕ) × IsHeader (strict_line line) header
       × ((lax ≡ false) ↔ (strict_line line ≡ line))
+      × IsLine line × (length line ≤ max_line_bytes)
       × Consumes left left' (line ++ line_feed ∷ [])
 
   -- The line in front of a frame was read, or the stream was at its end.
   abbrev pub ReadsLine : Bool → Type 0
   ReadsLine true =
-      (line : List ℕ) × IsLaxFrameLine line × IsLine line
+      (line : List ℕ) × IsLaxFrameLine line × IsLine line × (length line ≤ max_line_bytes)
       × Consumes left left' (line ++ line_feed ∷ [])
   ReadsLine false = Consumes left left' [] × IsAtEnd left'
 

@@ -1,22 +1,27 @@
 -- Small examples worked out by hand. Each is proved by computation (`refl`).
-use Rattle.std.specs.Prelude.{ℕ, ◌≡◌, ◌<◌, [], ◌∷◌, Some, None, true, false, refl}
+use Rattle.std.specs.Prelude.{ℕ, ◌≡◌, ◌<◌, [], ◌∷◌, List, Option, Some, None, true, false, refl}
 use Rattle.v_frame_y4m.specs.declared.color.Color.TheVariants.{Yuv420, Yuv420Mpeg2, Yuv422}
 use Rattle.v_frame_y4m.specs.declared.error.Y4mError.TheVariants.{Planar}
 use Rattle.v_frame_streams.specs.Conversions.{color_in}
-use Rattle.v_frame_streams.specs.Copies.{kept}
+use Rattle.v_frame_streams.specs.Copies.{kept, taken, RefusesCopy}
+use Rattle.v_frame_streams.specs.Crops.{IsTakable}
 use Rattle.v_frame_streams.specs.Edits.{beside, halved_size}
-use Rattle.v_frame_streams.specs.Errors.{cause_of, StopsFrame}
+use Rattle.v_frame_streams.specs.Errors.{cause_of, FailsToWrite, HasCause, RefusesPicture, StopsFrame}
 use Rattle.std.specs.declared.io.ErrorKind.TheVariants.{TimedOut}
 use Rattle.v_frame.specs.Prelude.{one_byte, two_bytes, Tables}
-use Rattle.v_frame_planar.specs.declared.error.PlanarError.TheVariants.{Read, Truncated}
+use Rattle.v_frame_planar.specs.Counted.{Watched}
+use Rattle.v_frame_planar.specs.declared.error.PlanarError.TheVariants.{Read, Truncated, Write}
 use Rattle.v_frame_semi_planar.specs.declared.format.SemiPlanarFormat.TheVariants.{Nv12, Nv21}
 use Rattle.v_frame_semi_planar.specs.declared.format.SemiPlanarFormat.TheVariants.{P010}
 use Rattle.v_frame_streams.specs.Pictures.{tables_of_bytes, Sizes}
 use Rattle.v_frame_streams.specs.Streams.{stream_bytes, written_bytes}
-use Rattle.v_frame_streams.specs.declared.error.Problem.TheVariants.{EmptyCrop, Stream}
-use Rattle.v_frame_streams.specs.declared.stream.Container.TheVariants.{Raw}
+use Rattle.v_frame_streams.specs.declared.error.Problem.TheVariants.{EmptyCrop, Stream, TooManyPixels}
+use Rattle.v_frame_streams.specs.declared.error.Problem.TheVariants.{SemiPlanar as NoSemiPlanar}
+use Rattle.v_frame_streams.specs.declared.options.CopyOptions.{CopyOptions}
+use Rattle.v_frame_streams.specs.declared.stream.Container.TheVariants.{Raw, Y4m}
 use Rattle.v_frame_formats.specs.Sums.{added}
-use Rattle.v_frame_formats.specs.declared.format.VideoFormat.TheVariants.{Planar}
+use Rattle.v_frame_formats.specs.declared.format.VideoFormat.TheVariants.{Planar, SemiPlanar}
+use Rattle.v_frame_y4m.specs.declared.header.StreamHeader.{StreamHeader}
 
 -- Half of 854 columns are 427, and half of these are 214, rounded up.
 half_of_even : halved_size true 854 ≡ 427
@@ -45,6 +50,23 @@ taken_frames : kept
     (([], 1 ∷ []) ∷ ([], 2 ∷ []) ∷ ([], 3 ∷ []) ∷ [])
     ≡ ([], 2 ∷ []) ∷ []
 taken_frames = refl
+
+-- A YUV4MPEG2 stream takes no frames in NV12, whatever the source is.
+abbrev to_nv12 : CopyOptions
+to_nv12 = record {
+  skip = 0;
+  count = None;
+  crop = None;
+  half = false;
+  format = Some (SemiPlanar Nv12);
+  frame_rate = None;
+  pixel_aspect = None;
+  max_pixels = 9;
+}
+
+nv12_is_rejected : (header : StreamHeader) → IsTakable (taken to_nv12 header) header
+    → RefusesCopy Y4m to_nv12 header NoSemiPlanar
+nv12_is_rejected header takable = (takable, refl, refl)
 
 -- If the chroma format does not change, the siting of the source is kept.
 siting_stays : color_in (Some (Planar Yuv420)) Yuv420Mpeg2 ≡ Yuv420Mpeg2
@@ -105,6 +127,28 @@ end_inside_a_frame_has_none = refl
 
 empty_crop_has_none : cause_of EmptyCrop (Some TimedOut) ≡ None
 empty_crop_has_none = refl
+
+failed_read_needs_a_cause : HasCause (Stream (Planar Read)) (Some TimedOut)
+failed_read_needs_a_cause = refl
+
+empty_crop_needs_none : HasCause EmptyCrop None
+empty_crop_needs_none = refl
+
+-- A picture of 4 by 3 pixels has more than 10.
+above_the_limit : 10 < 12 → RefusesPicture 10 1 4 3 Yuv420 (TooManyPixels 10)
+above_the_limit more = (refl, more)
+
+-- The contents of a writer that are known.
+abbrev written : Option (List ℕ) → Option (List ℕ)
+written bytes = bytes
+
+abbrev writer : Option (List ℕ) → ℕ → Watched (Option (List ℕ))
+writer bytes failures = record { inner = bytes; failures = failures; last_failure = None }
+
+-- The first of two bytes was written, and the next write failed.
+half_written : 1 < 2 → FailsToWrite written (writer (Some []) 0) (writer (Some (70 ∷ [])) 1) (70 ∷ 71 ∷ [])
+    (Stream (Planar Write))
+half_written fewer = ((1, fewer, refl), refl)
 
 -- The stream ended after two of six bytes.
 broken_frame : 2 < 6 → 0 < 2 → StopsFrame Raw (record { bytes = Some (70 ∷ 71 ∷ []); failures = 0 })

@@ -1,13 +1,13 @@
 //! Compares two streams frame by frame.
-ghost use Rattle.std.specs.Prelude.{◌≡◌, ◌≢◌, ◌⊎◌, ◌*◌, ◌≤◌, ◌<◌, IfErr, IfOk, None, OnOk};
+ghost use Rattle.std.specs.Prelude.{◌≡◌, ◌≢◌, ◌⊎◌, ◌*◌, ◌≤◌, ◌<◌, unwrap_or, IfErr, IfOk, None, OnOk};
 ghost use Rattle.v_frame.specs.Prelude.{one_byte, tables_of, two_bytes};
 ghost use Rattle.v_frame_planar.specs.Planar.{sizes_of};
 ghost use Rattle.v_frame_y4m.specs.Color.{depth_of};
 ghost use Rattle.v_frame_streams.specs.Comparisons.{errors_between, Adds, Compares, ComparesFrom, Watches, WatchesFrom};
-ghost use Rattle.v_frame_streams.specs.Formats.{HaveOneFormat};
+ghost use Rattle.v_frame_streams.specs.Formats.{HaveOneFormat, RefusesFormats};
 ghost use Rattle.v_frame_streams.specs.MadeFor.{IsMadeFor};
 ghost use Rattle.v_frame_streams.specs.Pictures.{sizes_in};
-ghost use Rattle.v_frame_streams.specs.Stops.{IsAtNextFrame, StopsComparison};
+ghost use Rattle.v_frame_streams.specs.Stops.{FailsAtEither, FailsToCompare, FailsToCompareAs, IsAtNextFrame, StopsComparison};
 ghost use Rattle.v_frame_streams.specs.Sources.{bytes_left, stream_of};
 ghost use Rattle.v_frame_streams.specs.Streams.{most_frames};
 ghost use Rattle.v_frame_streams.specs.Telling.{TellsUpTo};
@@ -72,7 +72,9 @@ pub fn compare_streams<
         (bytes_left R.remaining first.old) (bytes_left R.remaining first.new)
         (bytes_left S.remaining second.old) (bytes_left S.remaining second.new) options.now) }
     ensures other_format { ¬ (HaveOneFormat first.old.header second.old.header)
-        → IfErr result (IsAtNextFrame second.new) }
+        → IfErr result (λ error. IsAtNextFrame second.new error
+        × RefusesFormats first.old.header second.old.header error.problem) }
+    ensures bound { IfOk result (λ found. found.frames ≤ unwrap_or options.now.count most_frames) }
     ensures told { IfOk result (λ found. TellsUpTo P.shows found.frames
         progress.old progress.new) }
     ensures bytes_taken { depth_of first.old.header.color ≡ 8 → IfOk result (WatchesFrom one_byte
@@ -85,6 +87,10 @@ pub fn compare_streams<
         (stream_of first.old) (stream_of second.old)
         (bytes_left R.remaining first.old) (bytes_left R.remaining first.new)
         (bytes_left S.remaining second.old) (bytes_left S.remaining second.new) options.now) }
+    ensures problem { IfErr result (λ error.
+        FailsToCompare R.remaining S.remaining first.new second.new options.now.max_pixels error.problem
+        ⊎ (⟦<O as FrameObserver<u8>>⟧.stops observer.new error
+        ⊎ ⟦<O as FrameObserver<u16>>⟧.stops observer.new error)) }
     ensures stopped { IfErr result (λ error. StopsComparison first.new second.new error
         ⊎ (⟦<O as FrameObserver<u8>>⟧.stops observer.new error
         ⊎ ⟦<O as FrameObserver<u16>>⟧.stops observer.new error)) }
@@ -113,12 +119,16 @@ fn compare_as<T: Pixel, R: io::Read, S: io::Read, O: FrameObserver<T>, P: Progre
         (stream_of first.old) (stream_of second.old) (bytes_left R.remaining first.old)
         (bytes_left R.remaining first.new) (bytes_left S.remaining second.old)
         (bytes_left S.remaining second.new) options.now) }
+    ensures bound { IfOk result (λ found. found.frames ≤ unwrap_or options.now.count most_frames) }
     ensures told { IfOk result (λ found. TellsUpTo P.shows found.frames
         progress.old progress.new) }
     ensures taken { IfOk result (WatchesFrom T.form (sizes_in first.old.header) O.takes
         observer.old observer.new (stream_of first.old) (stream_of second.old)
         (bytes_left R.remaining first.old) (bytes_left R.remaining first.new)
         (bytes_left S.remaining second.old) (bytes_left S.remaining second.new) options.now) }
+    ensures problem { IfErr result (λ error.
+        FailsToCompareAs R.remaining S.remaining first.new second.new options.now.max_pixels T.BYTES error.problem
+        ⊎ O.stops observer.new error) }
     ensures stopped { IfErr result (λ error. StopsComparison first.new second.new error
         ⊎ O.stops observer.new error) }
     ensures same { stream_of first.new ≡ stream_of first.old }
@@ -151,12 +161,16 @@ fn compare_frames<T: Pixel, R: io::Read, S: io::Read, O: FrameObserver<T>, P: Pr
         (stream_of first.old) (stream_of second.old) (bytes_left R.remaining first.old)
         (bytes_left R.remaining first.new) (bytes_left S.remaining second.old)
         (bytes_left S.remaining second.new) most) }
+    ensures bound { IfOk result (λ found. found.frames ≤ most) }
     ensures told { IfOk result (λ found. TellsUpTo P.shows found.frames
         progress.old progress.new) }
     ensures taken { IfOk result (Watches T.form (sizes_of (tables_of one.old.frame)) O.takes
         observer.old observer.new (stream_of first.old) (stream_of second.old)
         (bytes_left R.remaining first.old) (bytes_left R.remaining first.new)
         (bytes_left S.remaining second.old) (bytes_left S.remaining second.new) most) }
+    ensures problem { IfErr result (λ error.
+        FailsAtEither R.remaining S.remaining first.new second.new error.problem
+        ⊎ O.stops observer.new error) }
     ensures stopped { IfErr result (λ error. StopsComparison first.new second.new error
         ⊎ O.stops observer.new error) }
     ensures same { stream_of first.new ≡ stream_of first.old }

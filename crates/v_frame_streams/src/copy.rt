@@ -6,7 +6,7 @@ ghost use Rattle.v_frame_y4m.specs.Frames.{pixel_bytes};
 ghost use Rattle.v_frame_y4m.specs.Header.{IsWritable};
 ghost use Rattle.v_frame_streams.specs.Conversions.{form_of, layout_in};
 ghost use Rattle.v_frame_streams.specs.Breaks.{counts_of, BreaksCopy};
-ghost use Rattle.v_frame_streams.specs.Copies.{copied_header, limit_of, made_bytes, same_bytes, taken, Begins, Copies, CopiesBy};
+ghost use Rattle.v_frame_streams.specs.Copies.{copied_header, limit_of, made_bytes, same_bytes, taken, Begins, CanCopy, Copies, CopiesBy, RefusesCopy};
 ghost use Rattle.v_frame_streams.specs.Crops.{IsTakable};
 ghost use Rattle.v_frame_streams.specs.Stops.{IsAtNextFrame, StopsCopy};
 ghost use Rattle.v_frame_streams.specs.Sources.{bytes_left, stream_of};
@@ -69,6 +69,12 @@ pub fn copy_stream<R: io::Read, W: io::Write, P: Progress>(
         sink.old.container options.now source.old.header source.old.layout) }
     ensures planar { OnOk result (sink.old.container ≡ Container.Y4m
         → layout_in options.now.format ≡ None) }
+    ensures can { OnOk result (CanCopy sink.old.container options.now source.old.header) }
+    ensures refused { ¬ (CanCopy sink.old.container options.now source.old.header) → IfErr result (λ error.
+        RefusesCopy sink.old.container options.now source.old.header error.problem) }
+    ensures untouched { ¬ (CanCopy sink.old.container options.now source.old.header)
+        → (bytes_left R.remaining source.new ≡ bytes_left R.remaining source.old)
+        × (W.contents sink.new.writer.inner ≡ W.contents sink.old.writer.inner) }
     ensures told { IfOk result (λ found. TellsUpTo P.shows found progress.old progress.new) }
     ensures stopped { IfErr result (StopsCopy source.new sink.new) }
     ensures broken { OnErr result (BreaksCopy source.old.container source.old.frame_len
@@ -99,6 +105,9 @@ fn planned_header<R: io::Read, W: io::Write>(
     ensures planar { OnOk result (sink.now.container ≡ Container.Y4m
         → layout_in options.now.format ≡ None) }
     ensures writable { IfOk result (λ header. sink.now.container ≡ Container.Y4m → IsWritable header) }
+    ensures can { OnOk result (CanCopy sink.now.container options.now source.now.header) }
+    ensures refused { IfErr result (λ error.
+        RefusesCopy sink.now.container options.now source.now.header error.problem) }
     ensures stopped { IfErr result (IsAtNextFrame source.now) }
 {
     check_crop(source, &rectangle_of(options, source.header()))?;

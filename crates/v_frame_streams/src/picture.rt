@@ -1,14 +1,14 @@
 //! A frame that is reused for each frame of a stream.
-ghost use Rattle.std.specs.Prelude.{◌≡◌, ◌↔◌, ◌≤◌, ◌<◌, ◌+◌, ◌*◌, option_map, Err, IfErr, IfOk, IfSome, IsErrAnd, IsOkUnless, IsTrue, MatchOption};
-ghost use Rattle.v_frame.specs.Prelude.{table_of, tables_of};
+ghost use Rattle.std.specs.Prelude.{◌≡◌, ◌↔◌, ◌≤◌, ◌<◌, ◌+◌, ◌*◌, false, option_map, Err, IfErr, IfOk, IfSome, IsErrAnd, IsOkUnless, IsTrue, MatchOption, OnErr};
+ghost use Rattle.v_frame.specs.Prelude.{table_of, tables_of, KeepsBorders};
 ghost use Rattle.v_frame_planar.specs.Planar.{sizes_of};
 ghost use Rattle.v_frame_planar.specs.Shown.{FillsFrame};
 ghost use Rattle.v_frame_planar.specs.Video.{chroma_sizes_of, video_refusal_of};
 ghost use Rattle.v_frame_y4m.specs.Color.{depth_of, subsampling_of};
 ghost use Rattle.v_frame_y4m.specs.Frames.{pixel_bytes};
 ghost use Rattle.v_frame_streams.specs.Conversions.{format_in, format_of, sizes_laid_out, LayoutFits};
-ghost use Rattle.v_frame_streams.specs.Errors.{picture_request, StopsAtFrame, StopsFrame};
-ghost use Rattle.v_frame_streams.specs.Stops.{IsAtNextFrame};
+ghost use Rattle.v_frame_streams.specs.Errors.{picture_request, RefusesPicture, StopsAtFrame, StopsFrame};
+ghost use Rattle.v_frame_streams.specs.Stops.{IsAtNextFrame, RefusesPictureOf};
 ghost use Rattle.v_frame_streams.specs.MadeFor.{IsMadeFor};
 ghost use Rattle.v_frame_streams.specs.Nth.{ReadsNth};
 ghost use Rattle.v_frame_streams.specs.Pictures.{sizes_in, tables_in_layout, tables_of_bytes, AreEven, IsEven, ReadsTables};
@@ -65,6 +65,7 @@ impl<T: Pixel> Picture<T> {
             → MatchOption (video_refusal_of T.BYTES (picture_request header.width header.height header.color))
             (IfErr result (λ error. error.problem ≡ Problem.OutOfMemory))
             (λ _. IsErrAnd result (λ error. error.problem ≡ Problem.TooLarge)) }
+        ensures problem { IfErr result (λ error. RefusesPictureOf max_pixels T.BYTES source.now.header error.problem) }
         ensures stopped { IfErr result (IsAtNextFrame source.now) }
     {
         let header = source.header();
@@ -98,6 +99,9 @@ impl<T: Pixel> Picture<T> {
     }
 
     /// Returns the bytes of the frame that was read last, in the order in which the stream has them.
+    ///
+    /// After a call of [`read`](Self::read) or [`read_nth`](Self::read_nth) that returned `false` or an error, the slice still has
+    /// the length of a frame, but its contents are unspecified: part of it may have been overwritten.
     pub fn bytes(&self) -> &[u8]
         ensures { result.now ≡ self.now.bytes.items }
     {
@@ -116,15 +120,16 @@ impl<T: Pixel> Picture<T> {
             && has_sizes(&self.frame, source.header())
     }
 
-    /// Reads the next frame of `source` into `frame`. Returns `false` if `source` is at its end.
+    /// Reads the next frame of `source` into `frame`. Returns `false` if `source` is at its end. `frame` is then unchanged. The
+    /// padding of `frame` is never changed.
     ///
     /// The picture must match the frames of `source`, which [`is_made_for`](Self::is_made_for) tests. It does if it was made
     /// for `source`, or for a stream with the same size and color.
     ///
     /// # Errors
     ///
-    /// [`Problem::Stream`] if the frame cannot be read whole. Do not read from `source` after an error: the bytes of the
-    /// incomplete frame are lost.
+    /// [`Problem::Stream`] if the frame cannot be read whole. `frame` is then unchanged. Do not read from `source` after an error:
+    /// the bytes of the incomplete frame are lost.
     pub fn read<R: io::Read>(&mut self, source: &mut Source<R>) -> Result<bool, StreamError>
         requires { IsMadeFor T.form source.old self.old }
         ensures read { IfOk result (ReadsTables T.form source.old.container source.old.frame_len
@@ -140,6 +145,9 @@ impl<T: Pixel> Picture<T> {
         ensures format { format_of self.new.frame ≡ format_of self.old.frame }
         ensures frames { IfOk result (λ more. source.new.frames ≡ frames_after source.old.frames more) }
         ensures uncounted { IfErr result (λ _. source.new.frames ≡ source.old.frames) }
+        ensures borders { KeepsBorders self.old.frame self.new.frame }
+        ensures at_end { IfOk result (λ more. more ≡ false → self.new.frame ≡ self.old.frame) }
+        ensures unread { OnErr result (self.new.frame ≡ self.old.frame) }
     {
         if !source.begin_frame(self.bytes.as_mut_slice())? {
             return Ok(false);
@@ -150,14 +158,15 @@ impl<T: Pixel> Picture<T> {
     }
 
     /// Skips `before` frames of `source` and reads the next frame into `frame`, like `Iterator::nth`. Returns `false` if
-    /// `source` has no frame after the skipped ones. It is then at its end.
+    /// `source` has no frame after the skipped ones. It is then at its end, and `frame` is unchanged. The padding of `frame` is
+    /// never changed.
     ///
     /// The picture must match the frames of `source`, as for [`read`](Self::read).
     ///
     /// # Errors
     ///
-    /// [`Problem::Stream`] if a frame cannot be read whole. Do not read from `source` after an error: the bytes of the
-    /// incomplete frame are lost.
+    /// [`Problem::Stream`] if a frame cannot be read whole. `frame` is then unchanged. Do not read from `source` after an error:
+    /// the bytes of the incomplete frame are lost.
     pub fn read_nth<R: io::Read>(
         &mut self,
         source: &mut Source<R>,
@@ -175,6 +184,9 @@ impl<T: Pixel> Picture<T> {
         ensures made { IsMadeFor T.form source.new self.new }
         ensures sizes { sizes_of (tables_of self.new.frame) ≡ sizes_of (tables_of self.old.frame) }
         ensures format { format_of self.new.frame ≡ format_of self.old.frame }
+        ensures borders { KeepsBorders self.old.frame self.new.frame }
+        ensures at_end { IfOk result (λ more. more ≡ false → self.new.frame ≡ self.old.frame) }
+        ensures unread { OnErr result (self.new.frame ≡ self.old.frame) }
     {
         let passed = skip_frames(source, before, &mut Silent)?;
         if passed < before {
@@ -201,6 +213,7 @@ pub(crate) fn blank_frame<T: Pixel>(
     ensures refused { width * height ≤ max_pixels
         → MatchOption (video_refusal_of T.BYTES (picture_request width height color))
         (IsOkUnless result Problem.OutOfMemory) (λ _. result ≡ Err Problem.TooLarge) }
+    ensures problem { IfErr result (RefusesPicture max_pixels T.BYTES width height color) }
 {
     match width.checked_mul(height) {
         Some(pixels) if pixels <= max_pixels => {}
@@ -227,6 +240,7 @@ fn show_frame<T: Pixel>(frame: &mut Frame<T>, bytes: &[u8], layout: Option<SemiP
     requires fits { FitsLayout T.form.size layout (shape_of frame.old) }
     ensures shown { tables_of frame.new
         ≡ tables_of_bytes T.form layout (sizes_of (tables_of frame.old)) bytes.now }
+    ensures borders { KeepsBorders frame.old frame.new }
     ensures sizes { sizes_of (tables_of frame.new) ≡ sizes_of (tables_of frame.old) }
     ensures format { format_of frame.new ≡ format_of frame.old }
 {
@@ -243,6 +257,7 @@ fn show_layout<T: Pixel>(frame: &mut Frame<T>, bytes: &[u8], layout: SemiPlanarF
     requires fits { LayoutFits T.form.size layout (format_of frame.old) (sizes_of (tables_of frame.old)) }
     ensures shown { tables_of frame.new
         ≡ tables_in_layout T.form layout (sizes_of (tables_of frame.old)) bytes.now }
+    ensures borders { KeepsBorders frame.old frame.new }
     ensures sizes { sizes_of (tables_of frame.new) ≡ sizes_of (tables_of frame.old) }
     ensures format { format_of frame.new ≡ format_of frame.old }
 {

@@ -6,6 +6,7 @@ ghost use Rattle.v_frame_planar.specs.Counted.{AppendsBeginning};
 ghost use Rattle.v_frame_planar.specs.Planar.{planar_bytes};
 ghost use Rattle.v_frame_semi_planar.specs.Format.{HasLayout};
 ghost use Rattle.v_frame_semi_planar.specs.SemiPlanar.{semi_planar_bytes};
+ghost use Rattle.v_frame_streams.specs.Errors.{FailsToWrite, FailsToWriteHeader};
 ghost use Rattle.v_frame_streams.specs.Stops.{IsAtNextWritten};
 ghost use Rattle.v_frame_streams.specs.Sources.{TakesHeader};
 ghost use Rattle.v_frame_streams.specs.Streams.{frame_line, frames_after, header_bytes, written_bytes};
@@ -65,6 +66,8 @@ impl<W: io::Write> Sink<W> {
         requires { TakesHeader self.old header.now }
         ensures ok { OnOk result (Appends (W.contents self.old.writer.inner)
             (W.contents self.new.writer.inner) (header_bytes self.old.container header.now)) }
+        ensures problem { IfErr result (λ error. FailsToWriteHeader W.contents self.old.writer
+            self.new.writer self.old.container header.now error.problem) }
         ensures stopped { IfErr result (IsAtNextWritten self.new) }
         ensures container { self.new.container ≡ self.old.container }
         ensures frames { self.new.frames ≡ self.old.frames }
@@ -90,6 +93,9 @@ impl<W: io::Write> Sink<W> {
         ensures beginning { OnErr result (AppendsBeginning (W.contents self.old.writer.inner)
             (W.contents self.new.writer.inner)
             (written_bytes self.old.container (planar_bytes T.form (tables_of frame.now)))) }
+        ensures problem { IfErr result (λ error. FailsToWrite W.contents self.old.writer
+            self.new.writer (written_bytes self.old.container (planar_bytes T.form (tables_of frame.now)))
+            error.problem) }
         ensures stopped { IfErr result (IsAtNextWritten self.new) }
         ensures container { self.new.container ≡ self.old.container }
         ensures counted { OnOk result (self.new.frames ≡ frames_after self.old.frames true) }

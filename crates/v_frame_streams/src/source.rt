@@ -35,7 +35,7 @@ pub struct Source<R> {
 }
 
 impl<R: io::Read> Source<R> {
-    ghost use Rattle.std.specs.Prelude.{◌≡◌, ◌+◌, ◌≤◌, ◌<◌, [], false, true, length, take, IfErr, IfOk, IsErrAnd, MatchBool, OnOk};
+    ghost use Rattle.std.specs.Prelude.{◌≡◌, ◌+◌, ◌≤◌, ◌<◌, [], false, true, length, take, IfErr, IfOk, IsErrAnd, MatchBool, None, OnOk};
     ghost use Rattle.std.specs.Io.KnownBytes.{Consumes, IsAtEnd};
     ghost use Rattle.v_frame_planar.specs.declared.error.PlanarError.TheVariants.{Truncated};
     ghost use Rattle.v_frame_y4m.specs.declared.error.Y4mError.TheVariants.{Planar};
@@ -43,7 +43,7 @@ impl<R: io::Read> Source<R> {
     ghost use Rattle.v_frame_streams.specs.Sources.{bytes_left, stream_of, unread_of, IsOpened};
     ghost use Rattle.v_frame_streams.specs.Streams.{frames_after, ReadsLine, ReadsNext};
 
-    /// Opens a YUV4MPEG2 stream: reads the header line, strict or lax, and leaves the frames to be read.
+    /// Opens a YUV4MPEG2 stream: reads the header line, strict or lax, and leaves the frames to be read. The frames are planar.
     ///
     /// Errors of this stream report `place` as the stream in which they happened. The reader is buffered, so more bytes than
     /// the header line may be read from it.
@@ -60,6 +60,7 @@ impl<R: io::Read> Source<R> {
         ensures read { IfOk result (λ source. ReadsHeaderLine (R.remaining reader) (bytes_left R.remaining source)
             source.header source.is_lax) }
         ensures writable { IfOk result (λ source. IsWritable source.header) }
+        ensures planar { IfOk result (λ source. source.layout ≡ None) }
         ensures refused { IfErr result (λ error. StopsOpening (R.remaining reader) error.problem) }
         ensures stopped { IfErr result (IsAtStart place) }
     {

@@ -33,7 +33,8 @@ header_of_raw video =
 
 -- a stream of this file was opened, of which no frame was read yet
 module _ {F I : Type 0} (remaining : InputFile F I → Option (List ℕ)) (file : InputFile F I) where
-  -- it begins as a stream does, and its header line was read and says the header
+  -- it begins as a stream does, its header line was read and says the header, and its frames are
+  -- planar
   abbrev pub OpensAsY4m : Source (MutBor (InputFile F I)) → Type 0
   OpensAsY4m source =
       IsOpened file.place Y4m source
@@ -41,6 +42,7 @@ module _ {F I : Type 0} (remaining : InputFile F I → Option (List ℕ)) (file 
       × ReadsHeaderLine (remaining file) (bytes_left (λ lent. remaining lent.now) source)
       source.header
       source.is_lax
+      × (source.layout ≡ None)
 
   -- it is headerless video of this size and format, all of whose bytes are left
   abbrev pub OpensAsRaw : RawVideo → Source (MutBor (InputFile F I)) → Type 0

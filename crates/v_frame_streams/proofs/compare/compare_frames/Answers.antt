@@ -1,12 +1,14 @@
 -- One more pair of frames was compared.
-use Rattle.std.proofs.Common.{ℕ, ◌≡◌, ◌+◌, ◌∙◌, Bool, true, ap, arith, refl, subst, sym}
+use Rattle.std.proofs.Common.{ℕ, ◌≡◌, ◌+◌, ◌<◌, ◌∙◌, Bool, true, ap, arith, refl, subst, sym}
 use Rattle.std.proofs.Common.{false, inl, inr}
 use Rattle.std.specs.Prelude.{◌⊎◌}
+use Rattle.std.proofs.lemmas.Result.{err_from_is_err_and}
 use Rattle.v_frame.specs.Prelude.{tables_of, Tables}
 use Rattle.v_frame_planar.specs.Planar.{sizes_of}
 use Rattle.v_frame_streams.specs.Comparisons.{errors_between, shown, Adds, Pair, WatchesFrames}
+use Rattle.v_frame_streams.specs.Errors.{StopsFrame}
 use Rattle.v_frame_streams.specs.Pictures.{tables_of_bytes, ReadsTables, Sizes}
-use Rattle.v_frame_streams.specs.Sources.{bytes_left, stream_of, Stream}
+use Rattle.v_frame_streams.specs.Sources.{bytes_left, stream_of, unread_of, Stream}
 use Rattle.v_frame_streams.specs.Streams.{Framed, ReadsWhole}
 use Rattle.v_frame_streams.specs.declared.comparison.Comparison.{Comparison}
 use Rattle.v_frame_streams.proofs.Comparing.{none_watched, one_more_watched, watched_all, watched_to_end}
@@ -121,8 +123,10 @@ returns-then-not-more-clause-taken g c =
       | then-not-more-via-then-not-more w ↦ inl w.if-not-more.true
       | then-not-more-via-else-not-more+then-not-also w ↦ inr w.if-not-also.true
     ] in
+    let fewer : c.loop-count.found.frames < c.args.most =
+    omega (arith, before.counted, c.loop-count-test.true) in
     watched_to_end form size one other _ mid left _ far right c.loop-count.found c.loop-count.found before.watched.0
-    g.O.FrameObserver.takes c.args.observer.now c.loop-count.observer before.watched.1 c.args.most
+    g.O.FrameObserver.takes c.args.observer.now c.loop-count.observer before.watched.1 c.args.most fewer
     c.longer_of-longer.result more also read also_read c.longer_of-longer.ensures shorter
 
 pub returns-then-not-more-clause-compared : goal.returns-then-not-more-clause-compared
@@ -139,3 +143,25 @@ returns-clause-taken g c =
 
 pub returns-clause-compared : goal.returns-clause-compared
 returns-clause-compared g c = (returns-clause-taken g c).0
+
+-- A frame of the first stream could not be read.
+pub returns-in_err-more-clause-problem : goal.returns-in_err-more-clause-problem
+returns-in_err-more-clause-problem g c =
+    let mid = unread_of g.R.Read.remaining c.loop-count.first in
+    let left = unread_of g.R.Read.remaining c.read.new.source in
+    let problem = c.in_err-more.field-0.0.problem in
+    let stops = subst (λ (s : Stream). StopsFrame s.container mid left s.frame_len problem)
+    (sym c.in_err-more.ensures.same) c.in_err-more.ensures.problem in
+    let p = err_from_is_err_and c.from_residual.result c.from_residual.ensures.1 in
+    rw (p.1, p.2) (inl (inl (mid, stops)))
+
+-- A frame of the second stream could not be read.
+pub returns-in_err-also-clause-problem : goal.returns-in_err-also-clause-problem
+returns-in_err-also-clause-problem g c =
+    let mid = unread_of g.S.Read.remaining c.loop-count.second in
+    let left = unread_of g.S.Read.remaining c.read-in-loop-count.new.source in
+    let problem = c.in_err-also.field-0.0.problem in
+    let stops = subst (λ (s : Stream). StopsFrame s.container mid left s.frame_len problem)
+    (sym c.in_err-also.ensures.same) c.in_err-also.ensures.problem in
+    let p = err_from_is_err_and c.from_residual-in_err-also.result c.from_residual-in_err-also.ensures.1 in
+    rw (p.1, p.2) (inl (inr (mid, stops)))

@@ -1,5 +1,5 @@
 -- A region of a plane needs no more memory than the plane.
-use Rattle.std.proofs.Common.{◌≡◌, ◌*◌, ◌≤◌, arith, ap}
+use Rattle.std.proofs.Common.{◌≤◌, arith}
 use Rattle.std.proofs.lemmas.Nat.{mul-le}
 use Rattle.v_frame.specs.Prelude.{alloc_size_of, alloc_height_of, stride_of}
 use Rattle.v_frame_streams.specs.Crops.{unpadded_part}

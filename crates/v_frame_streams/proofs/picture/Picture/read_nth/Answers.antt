@@ -1,5 +1,5 @@
 -- The skipped frames, and the frame after them.
-use Rattle.std.proofs.Common.{ℕ, ◌≡◌, ◌+◌, ◌<◌, ◌∙◌, Bool, true, false, List, Option, Result, Ok, Err, length, arith, refl, subst}
+use Rattle.std.proofs.Common.{ℕ, ◌≡◌, ◌+◌, Bool, true, false, List, Option, Result, Ok, Err, arith, refl, subst}
 use Rattle.std.specs.Prelude.{min, IfErr, IfOk}
 use Rattle.v_frame.specs.Prelude.{tables_of, PixelForm, Tables}
 use Rattle.v_frame_planar.specs.Planar.{sizes_of}

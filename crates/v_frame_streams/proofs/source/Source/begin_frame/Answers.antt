@@ -1,5 +1,5 @@
 -- Reading a frame fails after its line, or in its first bytes.
-use Rattle.std.proofs.Common.{◌≡◌, ◌<◌, ◌∙◌, Bool, [], ap, arith, length-take-le, refl, rules, subst, sym, take, ℕ}
+use Rattle.std.proofs.Common.{Bool, [], ap, arith, length-take-le, refl, rules, subst, sym, take}
 use Rattle.std.proofs.lemmas.Result.{err_from_is_err_and}
 use Rattle.v_frame_planar.specs.declared.error.PlanarError.TheVariants.{Truncated}
 use Rattle.v_frame_y4m.specs.declared.error.Y4mError.TheVariants.{Planar}
@@ -9,7 +9,7 @@ use Rattle.v_frame_streams.specs.Streams.{ReadsLine}
 use Rattle.v_frame_streams.specs.declared.error.Problem.{Problem}
 use Rattle.v_frame_streams.specs.declared.error.Problem.TheVariants.{Stream as OfStream}
 use Rattle.v_frame_streams.specs.declared.stream.Container.{Container}
-use Rattle.v_frame_streams.specs.declared.stream.Container.TheVariants.{Raw, Y4m}
+use Rattle.v_frame_streams.specs.declared.stream.Container.TheVariants.{Y4m}
 use Rattle.v_frame_streams.proofs.Breaking.{stops_in_frame}
 use Rattle.v_frame_streams.proofs.source.Source.begin_frame.Goals as goal
 
@@ -27,8 +27,8 @@ returns-in_err-read_part-in-Y4m-clause-problem g c =
     let p = err_from_is_err_and c.from_residual-in_err-read_part-in-Y4m.result
     c.from_residual-in_err-read_part-in-Y4m.ensures.1 in
     rw (p.1, p.2) (subst (λ (from : Container). StopsFrame from start left count problem) (sym c.in-Y4m.is)
-    (stops_in_frame start left count mid first.uncounted Y4m line.0 [] (line.1, line.2) (λ raw. absurd (search (rules, raw)))
-    line.3 problem stops))
+    (stops_in_frame start left count mid first.uncounted Y4m line.0 [] (line.1, line.2, line.3) (λ raw. absurd (search (rules, raw)))
+    line.4 problem stops))
 
 pub returns-then-found-front-clause-problem : goal.returns-then-found-front-clause-problem
 returns-then-found-front-clause-problem g c =
