@@ -112,7 +112,7 @@ impl<W: io::Write> FrameReport<W> {
     ///
     /// # Errors
     ///
-    /// The error of the writer, and [`Problem::OutOfMemory`] if there is not enough memory.
+    /// The error of the writer, and `Problem::OutOfMemory` if there is not enough memory.
     #[tactic(auto, using(crate::proofs::Reporting::ends_known))]
     pub(crate) fn end(&mut self, found: &Comparison) -> Result<(), StreamError>
         ensures { OnOk result (EndsKnown (W.contents self.old.out)
@@ -146,7 +146,7 @@ impl<W: io::Write> FrameReport<W> {
     ///
     /// # Errors
     ///
-    /// The error of the writer, and [`Problem::OutOfMemory`] if there is not enough memory.
+    /// The error of the writer, and `Problem::OutOfMemory` if there is not enough memory.
     pub(crate) fn end_broken(&mut self, error: &StreamError) -> Result<(), StreamError> {
         let shown = ShownProblem { error };
         let said = format!(in self.alloc; "{shown}");

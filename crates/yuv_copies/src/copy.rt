@@ -292,7 +292,7 @@ fn copy_options(options: &Options, header: &StreamHeader) -> CopyOptions
 ///
 /// # Errors
 ///
-/// The errors of [`copy_stream`], and [`Problem::TooManyPixels`] if its pictures have more pixels than the options allow, even if
+/// The errors of [`copy_stream`], and `Problem::TooManyPixels` if its pictures have more pixels than the options allow, even if
 /// no picture is held in memory.
 pub fn copy_source<R: io::Read, W: io::Write, P: Progress>(
     alloc: Global,
