@@ -37,9 +37,10 @@ pub(crate) struct PartialFile<F> {
 }
 
 impl<F: OpenFile + SystemFile + Drop> PartialFile<F> {
-    /// Creates a temporary file beside `target`. Its name is the name of the target with the ending `.partial`. A number is added
-    /// if that name belongs to a file that another process is writing, to a file that no earlier run left behind, or to one of
-    /// the files `inputs`. The file is marked as incomplete, and has at most the permissions of `wanted` if it is given.
+    /// Creates a temporary file beside `target`. Its name is the name of the target with the ending `.partial`. If a file with
+    /// this name exists, it is replaced if an interrupted run left it behind. Otherwise, and if it is one of the files `inputs`,
+    /// a number is added to the name. The new file is marked as incomplete, and has at most the permissions of `wanted` if it is
+    /// given.
     ///
     /// # Errors
     ///

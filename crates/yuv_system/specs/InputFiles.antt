@@ -24,8 +24,7 @@ module _ {F I : Type 0} where
         prepend_known (slice_range input.first input.given input.known)
         (bytes_of_reader input.reader.inner)
 
--- The bytes of a file that was opened by its name. For `-`, they are the bytes of standard input,
--- from which nothing was read.
+-- If the name of a file is `-`, its bytes are those of standard input, from which nothing was read.
 abbrev pub IsInputOf : {I : Type 0} → (I → Option (List ℕ)) → List ℕ → Option I
     → Option (List ℕ) → Type 0
 IsInputOf remaining name input bytes =

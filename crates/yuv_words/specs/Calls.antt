@@ -24,7 +24,7 @@ pub record IsCall (name : CommandName) (command : Command) (words : List (List �
       → values_of tokens option ≡ []
   pub says : Says (values_of tokens) name command (files_of tokens ++ after_end words)
 
--- The first argument requests help.
+-- The argument requests help if it is the first one.
 abbrev pub IsHelpWord : List ℕ → Type 0
 IsHelpWord word = (word ≡ codes "help") ⊎ ((word ≡ codes "--help") ⊎ (word ≡ codes "-h"))
 
@@ -37,7 +37,7 @@ abbrev pub AsksHelp : List (List ℕ) → Type 0
 AsksHelp (first ∷ rest) = IsTrue (list_any is_help_option (before_end rest))
 AsksHelp _ = ⊥
 
--- The first argument requests the version.
+-- The argument requests the version if it is the first one.
 abbrev pub IsVersionWord : List ℕ → Type 0
 IsVersionWord word =
     (word ≡ codes "version") ⊎ ((word ≡ codes "--version") ⊎ (word ≡ codes "-V"))
