@@ -69,6 +69,10 @@ fn push_frame_word(text: &mut String) -> Result<(), AllocError>
 }
 
 /// Appends an SVG text element with these attributes. The text `words` is escaped, the attributes are not.
+///
+/// # Errors
+///
+/// Returns [`AllocError`] if there is not enough memory.
 #[tactic(auto, using(crate::proofs::Appended::joins), unfolding(crate::specs::Words::text_of))]
 pub fn push_text(text: &mut String, attributes: &str, words: &str) -> Result<(), AllocError>
     ensures { OnOk result (string_bytes text.new

@@ -10,6 +10,10 @@ use v_frame::plane::RowsRef;
 use v_frame_png::{Compression, Header, PngError, PngWriter, write_png_with};
 
 /// Returns the bytes of a PNG file with samples of one byte.
+///
+/// # Errors
+///
+/// A [`PngError`] if there is not enough memory, or if the rows do not fit the header.
 pub fn file_of_bytes(
     alloc: Global,
     header: Header,
@@ -23,6 +27,10 @@ pub fn file_of_bytes(
 }
 
 /// Returns the bytes of a PNG file with samples of two bytes.
+///
+/// # Errors
+///
+/// A [`PngError`] if there is not enough memory, or if the rows do not fit the header.
 pub fn file_of_words(
     alloc: Global,
     header: Header,

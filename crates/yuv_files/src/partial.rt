@@ -69,6 +69,10 @@ impl<F: OpenFile + SystemFile + Drop> PartialFile<F> {
 }
 
 /// Sets the mode of a complete file, which removes the mark of incomplete files.
+///
+/// # Errors
+///
+/// The error of the system, unless the file has the wanted mode anyway.
 pub(crate) fn finish<F: OpenFile>(file: &F, mode: u32) -> io::Result<()> {
     match file.set_permissions(Permissions::from_mode(mode)) {
         Ok(()) => Ok(()),
@@ -199,6 +203,10 @@ fn is_unfinished(found: &Metadata) -> bool {
 }
 
 /// Opens a file for writing, without changing it.
+///
+/// # Errors
+///
+/// The error of the system.
 pub(crate) fn open_for_writing<H: Files>(rt: &H, name: &str) -> io::Result<H::File> {
     let mut options = OpenOptions::new();
     options.write(true);

@@ -56,7 +56,11 @@ pub fn write_plane_picture<T: Pixel, W: io::Write + Drop>(
     }
 }
 
-/// Writes a plane with the bit depth `depth` in gray.
+/// Writes a plane with the bit depth `depth` in gray, and returns the writer.
+///
+/// # Errors
+///
+/// The errors of [`write_plane_picture`], except for [`PictureError::NoPlane`].
 pub(crate) fn write_gray<T: Pixel, W: io::Write + Drop>(
     alloc: Global,
     out: W,

@@ -87,6 +87,10 @@ impl<F: Read, I: Read> InputFile<F, I> {
     }
 
     /// Inspects the first bytes, and returns whether a YUV4MPEG2 stream begins with them. A later read still returns them.
+    ///
+    /// # Errors
+    ///
+    /// The error of the reader.
     #[tactic(auto, using(crate::proofs::LookedAt::begins_as, crate::proofs::LookedAt::looked_at))]
     pub(crate) fn begins_as_a_stream(&mut self) -> Result<bool, StreamError>
         requires { IsReadOn self.old }
