@@ -36,7 +36,7 @@ series_text scale span (k, series) =
     ++ drawn_text (marks_of (across_of span) (down_of scale) (length values) (columns_of values room))
     (nat_lt room (length values)) (color_of k)
 
--- The series in their order, followed by their names.
+-- The series in their order.
 unfoldable pub all_series : Scale → ℕ → List Series → List ℕ
 all_series scale span series =
     flat_map (series_text scale span) (enumerate_from 0 series)
@@ -82,7 +82,8 @@ pub record IsChart (chart : Chart) (text : List ℕ) : Type 0 where
   pub steps : IsFrameStep (span_of chart.series.now) step
   pub drawn : text ≡ chart_text chart scale step
 
--- The picture of a chart was appended to known bytes.
+-- The complete picture of a chart was appended to the bytes, if these are known. After an error, it
+-- is the beginning of the picture.
 abbrev pub AppendsChart : Option (List ℕ) → Option (List ℕ) → Chart → Type 0
 AppendsChart old new chart = (text : List ℕ) × IsChart chart text × Appends old new text
 

@@ -15,7 +15,7 @@ colors =
 unfoldable pub color_of : ℕ → List ℕ
 color_of k = slice_index_or colors (k % 7) []
 
--- A text with these attributes.
+-- A text element with these attributes.
 unfoldable pub text_head : List ℕ → List ℕ
 text_head attributes = codes "<text " ++ (attributes ++ codes ">")
 

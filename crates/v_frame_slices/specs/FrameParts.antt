@@ -74,7 +74,7 @@ fits_by r None = is_bordered (luma_in r (1, 1)) usize_max
 fits_by r (Some ratio) =
     is_bordered (luma_in r ratio) usize_max && is_bordered (chroma_in r ratio) usize_max
 
--- The status: 4 if there is no such format, 1 if a plane does not fit into memory, and 0 otherwise.
+-- The status: 4 if there is no such format, 1 if a plane can't be addressed, and 0 otherwise.
 abbrev pub status_by : FrameRequest → Option ChromaSubsampling → ℕ
 status_by r None = 4
 status_by r (Some format) = if fits_by r (ratio_of format) then 0 else 1

@@ -63,7 +63,8 @@ module _ {T : Type 0} (rows source_rows : Rows) (source old new : List T) (statu
         ≡ Some (form.pixel_of (area_mean form
         (picture source_rows source) rows.width rows.height x y)))
 
-    -- The picture is exactly half as wide and half as high as the source.
+    -- Each row is calculated from two rows of the source, which is exactly twice as wide and twice
+    -- as high.
     abbrev pub IsHalved : Type 0
     IsHalved =
         makes true (times_size 2 rows source_rows)

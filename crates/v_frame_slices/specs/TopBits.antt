@@ -21,7 +21,8 @@ abbrev pub of_top_bits : ℕ → Table ℕ → Table ℕ
 of_top_bits depth words = mapped (mapped (λ p. p / 2 ^ (16 - depth))) words
 
 module _ (depth format : ℕ) (y_rows uv_rows source_rows u_rows v_rows : Rows) where
-  -- Luma has the source in its top bits. Chroma has u and v, interleaved, in its top bits.
+  -- The words of luma have the samples of the source in their top bits. The words of chroma have
+  -- those of u and v, interleaved.
   pub record AreInTopBits (y new_y uv new_uv source u v : List ℕ) (status : ℕ) : Type 0 where
     pub answer : status ≡ status_of_number (is_depth 2 depth)
         (status_of_format (is_semi_planar format)
@@ -36,8 +37,8 @@ module _ (depth format : ℕ) (y_rows uv_rows source_rows u_rows v_rows : Rows) 
     pub y_kept : Keeps y_rows y new_y status
     pub uv_kept : Keeps uv_rows uv new_uv status
 
-  -- Luma has the top bits of the source. The planes u and v, interleaved, have the top bits of its
-  -- chroma.
+  -- Luma has the samples in the top bits of the source's words. The planes u and v have those of
+  -- the interleaved chroma.
   pub record AreOfTopBits (y new_y u new_u v new_v source uv : List ℕ) (status : ℕ) : Type 0 where
     pub answer : status ≡ status_of_number (is_depth 2 depth)
         (status_of_format (is_semi_planar format)
