@@ -82,8 +82,8 @@ pub record IsChart (chart : Chart) (text : List ℕ) : Type 0 where
   pub steps : IsFrameStep (span_of chart.series.now) step
   pub drawn : text ≡ chart_text chart scale step
 
--- The complete picture of a chart was appended to the bytes, if these are known. After an error, it
--- is the beginning of the picture.
+-- The picture of a chart was appended: the complete picture, or only a beginning of it. Nothing is
+-- stated if the bytes of the writer are unknown.
 abbrev pub AppendsChart : Option (List ℕ) → Option (List ℕ) → Chart → Type 0
 AppendsChart old new chart = (text : List ℕ) × IsChart chart text × Appends old new text
 
