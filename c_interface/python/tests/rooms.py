@@ -1,4 +1,4 @@
-"""A folder with a stream for each test, and frames to write."""
+"""A test case with a temporary folder that contains a stream, and functions that create frames."""
 
 import os
 import tempfile
@@ -12,7 +12,7 @@ NOBODY = 65534
 
 
 def stream_of(numbers):
-    """A stream whose frames have these numbers as their samples."""
+    """Returns a stream in which all samples of each frame are one of these numbers."""
     return LINE + b"".join(b"FRAME\n" + bytes([it] * 12) for it in numbers)
 
 
@@ -24,7 +24,7 @@ GOOD, OTHER = stream_of((1, 2, 3)), stream_of((7, 8))
 
 
 class Room(unittest.TestCase):
-    """A folder with a stream. A fault could replace a device, so nobody's rights have to do where the test itself writes to one."""
+    """Creates a folder with a stream for each test. Tests run as the user nobody, because an error could otherwise replace a device."""
 
     as_nobody = True
 
@@ -54,7 +54,7 @@ class Room(unittest.TestCase):
         self.assertEqual([it for it in os.listdir("work") if "partial" in it], [])
 
     def fails(self, error, write, words=""):
-        """What fails leaves the target as it was, and no file where there was none."""
+        """A write that fails leaves the target unchanged, and creates no file if there was none."""
         before = sorted(os.listdir("work"))
         for name in ("work/a.y4m", "work/new.y4m"):
             with self.assertRaisesRegex(error, words):

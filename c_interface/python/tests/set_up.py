@@ -1,4 +1,4 @@
-"""What the tests share. It is imported first: with --without-numpy the module is tested as where there is no numpy."""
+"""The setup that all tests import first. With --without-numpy, the module is tested as if numpy were not installed."""
 
 import sys
 import unittest
@@ -14,7 +14,7 @@ except ImportError:
 
 
 def main():
-    """Runs the tests of the program, and ends with what they found."""
+    """Runs the tests of the program. The exit status states whether all of them passed."""
     result = unittest.main(exit=False, verbosity=0).result
     print(f"{result.testsRun} tests, {len(result.skipped)} skipped")
     sys.exit(not result.wasSuccessful())

@@ -1,4 +1,4 @@
-"""The examples of the module's documentation, which each public call has: test_documentation.py [--without-numpy]"""
+"""Runs the examples in the documentation of the module. Each public call has one: test_documentation.py [--without-numpy]"""
 
 import set_up
 
@@ -13,7 +13,7 @@ import unittest
 import v_frame
 from v_frame import y4m
 
-#: What is neither called nor has anything to show.
+#: Names that need no example, because they are not called.
 WITHOUT = {"Part", "Statistics", "PairStatistics", "Frames", "Greatest"}
 
 

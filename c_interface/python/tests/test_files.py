@@ -1,4 +1,4 @@
-"""Files that write_y4m is given: each is whole or as it was, whatever fails: test_files.py [--without-numpy]"""
+"""Tests files that write_y4m writes. Each is complete or unchanged, even if writing fails: test_files.py [--without-numpy]"""
 
 import set_up
 
@@ -33,7 +33,7 @@ class Names(Room):
                 header, frames = y4m.read_y4m(source)
                 y4m.write_y4m(target, header, (Frame(it) for number, it in enumerate(frames) if number != 1))
                 self.assertHas(target, stream_of((1, 3)))
-                # What is replaced is the name, and so another hard link keeps its frames.
+                # The file gets a new name entry, so another hard link keeps the old frames.
                 self.assertHas("work/hard.y4m" if target != "work/hard.y4m" else "work/a.y4m", GOOD)
                 self.assertTrue(os.path.islink("work/link.y4m") and os.path.islink("work/second.y4m"))
                 self.assertNothingBeside()
@@ -83,7 +83,7 @@ class Names(Room):
         self.assertHas("work/b.y4m", OTHER)
         self.assertFalse(os.path.exists(names[99]))
         os.unlink("work/b.y4m")
-        # A link to nothing has the name, too, and nothing is written through it.
+        # A dangling link has the name too, and nothing is written through it.
         os.symlink("elsewhere", names[99])
         self.assertRaises(FileExistsError, y4m.write_y4m, "work/b.y4m", HEADER, frames_of((7, 8)))
         self.assertFalse(os.path.exists("work/b.y4m") or os.path.exists("work/elsewhere"))
@@ -168,7 +168,7 @@ def frames(numbers):
 
 
 class Devices(Room):
-    """What is no regular file is written as it is."""
+    """Targets that are not regular files are written directly."""
 
     def test_devices_and_pipes(self):
         y4m.write_y4m("/dev/null", HEADER, frames_of((7, 8)))
@@ -192,7 +192,7 @@ class Devices(Room):
         writer.join(20)
 
 
-# The rights of nobody, after all is loaded; /proc/self stays the program's own then (PR_SET_DUMPABLE).
+# Continues as the user nobody after all modules are loaded. PR_SET_DUMPABLE keeps /proc/self accessible to the program.
 WITHOUT_RIGHTS = '''
 if os.geteuid() == 0:
     import ctypes
@@ -202,7 +202,7 @@ if os.geteuid() == 0:
 
 
 class Runs(Room):
-    """Programs of their own. What is open already is written as it is."""
+    """Runs separate programs. Files that are already open are written directly."""
 
     as_nobody = False
 
@@ -211,8 +211,8 @@ class Runs(Room):
         os.chmod("work", 0o777)
 
     def run_in_shell(self, words, program):
-        """A shell's line, in which $0 is Python and $1 a program over the frames."""
-        # What a program prints stays in a buffer, where its user has not asked for something else.
+        """Runs a line of shell code, in which $0 is Python and $1 is a program that writes frames."""
+        # The output of a program is buffered, unless the user's environment turns this off.
         environment = {name: value for name, value in os.environ.items() if name != "PYTHONUNBUFFERED"}
         return subprocess.run(["timeout", "60", "sh", "-c", words, sys.executable, PROGRAM + WITHOUT_RIGHTS + program],
                               capture_output=True, text=True, env=environment)
@@ -253,7 +253,7 @@ for name in ("disk/a.y4m", "disk/new.y4m"):
 
     @unittest.skipUnless(os.path.exists("/dev/stdout"), "there is no /dev/stdout")
     def test_open_files(self):
-        """Others write to the same file before it and after it, and so does the program itself."""
+        """Other programs write to the same file before and after the call, and so does the program itself."""
         os.symlink("/proc/self/fd/3", "work/third")
         os.symlink("/proc/self/fd", "work/folder")
         program = 'print("before"); y4m.write_y4m("{}", HEADER, frames((7, 8))); print("after")'

@@ -1,4 +1,4 @@
-"""Frames in other formats, bit depths and colors, beside plain loops: test_frames.py [--without-numpy]"""
+"""Tests conversions of frames to other formats, bit depths and colors against simple loops: test_frames.py [--without-numpy]"""
 
 import set_up
 
@@ -47,7 +47,7 @@ def at_depth(value, source, target):
 
 
 def chroma_by_hand(rows, source, target, width, height):
-    """Each sample is the mean of those of a block, of which past an edge the last one counts, or the one that it repeats."""
+    """Calculates chroma by hand. A sample is the mean of a block, in which the last sample repeats past an edge, or a repeated sample."""
     (sx, sy), (tx, ty) = RATIOS[source], RATIOS[target]
     found = []
     for y in range(-(-height // ty)):
@@ -76,13 +76,13 @@ class Frames(unittest.TestCase):
                     wanted.append(chroma_by_hand(samples_of(frame[number]), first, second, width, height) if first != "mono" else
                                   [[1 << depth - 1] * w for w, h in [y4m.Header(width, height, second).sizes()[1]] for _ in range(h)])
                 self.assertEqual([samples_of(it) for it in found], [[[at_depth(it, depth, other) for it in row] for row in rows] for rows in wanted])
-                # A frame in its own format is a copy.
+                # A conversion to the frame's own format returns a copy.
                 again = frame.convert()
                 self.assertEqual([samples_of(it) for it in again], [samples_of(it) for it in frame])
                 self.assertTrue(all(p is not q for p, q in zip(again, frame)))
 
     def test_semi_planar(self):
-        """Chroma takes turns, and above 8 bits samples are in the top bits, as ffmpeg describes nv12, nv16, nv24, p010le and the like."""
+        """Chroma is interleaved, and samples above 8 bits are in the top bits, as ffmpeg defines nv12, nv16, nv24, p010le and others."""
         source = random.Random(20)
         for format, depth, as_array in itertools.product(("420", "422", "444"), (8, 9, 10, 16), (False, True)[:2 if numpy else 1]):
             for width, height in ((1, 1), (5, 3), (8, 4)):
@@ -95,7 +95,7 @@ class Frames(unittest.TestCase):
                 back = Frame.from_semi_planar(y, uv, format, depth)
                 self.assertEqual([samples_of(it) for it in back], [samples_of(it) for it in frame])
                 self.assertEqual((back.format, back.depth), (format, depth))
-        # Bits below a sample are no part of it.
+        # The bits below a sample are ignored.
         words = Plane((64 * 5 + 63).to_bytes(2, sys.byteorder) * 2, 2, 1, sample_size=2)
         self.assertEqual([samples_of(it) for it in Frame.from_semi_planar(words, words, "420", 10)], [[[5, 5]], [[5]], [[5]]])
         for format in ("mono", "411"):
@@ -138,7 +138,7 @@ class Frames(unittest.TestCase):
 
 
 def parts_of(data):
-    """The parts of a PNG file by their kinds, each seen to have its check sum."""
+    """Returns the parts of a PNG file by type, and verifies their checksums."""
     found, at = {}, 8
     while at < len(data):
         length, kind = struct.unpack(">I4s", data[at:at + 8])
@@ -149,12 +149,12 @@ def parts_of(data):
 
 
 def narrow(value):
-    """A number rounded to a float of 32 bits."""
+    """Returns a number rounded to a float of 32 bits."""
     return struct.unpack("f", struct.pack("f", value))[0]
 
 
 def ssim_by_hand(a, b, depth):
-    """The mean over the windows with the roundings of ffmpeg's C code: above 8 bits a line is added up in floats of 32 bits."""
+    """Returns the mean over the windows, rounded as in ffmpeg's C code: above 8 bits, lines are summed in floats of 32 bits."""
     peak, total, across, down = (1 << depth) - 1, 0.0, len(a[0]) // 4 - 1, len(a) // 4 - 1
     means, variances = ((factor * peak * peak + 5000) // 10000 for factor in (64, 36288))
     for y in range(down):

@@ -1,4 +1,4 @@
-"""What the module refuses, each with one of its errors, and what stays as it was then: test_refusals.py [--without-numpy]"""
+"""Tests the errors of the module, and that a failed call changes nothing: test_refusals.py [--without-numpy]"""
 
 import set_up
 
@@ -37,7 +37,7 @@ class Headers(unittest.TestCase):
     }
 
     def set(self, **words):
-        """A header whose fields were set after it was made. It cannot be made with these fields."""
+        """Returns a header whose fields were changed after its creation. A header cannot be created with these fields."""
         self.assertRaises(y4m.Y4mError, y4m.Header, **{**vars(self.GOOD), **words})
         header = y4m.Header(**vars(self.GOOD))
         for name, value in words.items():
@@ -51,7 +51,7 @@ class Headers(unittest.TestCase):
         yield self.set(format="411", bit_depth=10, siting=None)
         for depth in self.WRONG["bit_depth"]:
             yield self.set(format="444", bit_depth=depth, siting=None)
-        # Only 8-bit 4:2:0 has a siting, and no header loses one.
+        # Only 8-bit 4:2:0 has a siting. No other header is written without its siting.
         for format, depth in (("420", 10), ("422", 8), ("444", 8), ("mono", 8), ("411", 8), ("444", 16)):
             yield self.set(format=format, bit_depth=depth, siting="jpeg")
         yield from (None, "YUV4MPEG2 W4 H2", b"YUV4MPEG2 W4 H2", 5)
@@ -93,7 +93,7 @@ class Headers(unittest.TestCase):
                 header.siting = "jpeg"
             self.assertEqual((found, list(frames)), (header, []))
             self.assertEqual(sum(width * height for width, height in found.sizes()) * (1 if depth == 8 else 2), found.frame_bytes())
-        # Five formats of 8 bits, of which one has four sitings, and four of five other depths.
+        # Five formats of 8 bits, of which one has four sitings, and four formats with five other depths.
         self.assertEqual(written, (4 + 4 + 4 * 5) * 6 * 4)
 
     def test_another_format(self):
@@ -141,7 +141,7 @@ class Libraries(unittest.TestCase):
                 self.assertRegex(run.stderr.splitlines()[-1], f"^ImportError: .*{words}")
 
     def test_a_library_of_another_version(self):
-        """The first two numbers have to agree."""
+        """The major and the minor version must match."""
         major, minor, patch = map(int, v_frame.__version__.split("."))
         for library, name in ((_library._library, "v_frame"), (_headers._library, "v_frame_y4m")):
             for other in (f"{major}.{minor + 1}.{patch}", f"{major + 1}.{minor}.{patch}"):
@@ -152,7 +152,7 @@ class Libraries(unittest.TestCase):
                 _library.of_this_version(library, name)
 
     def test_where_a_library_is_looked_for(self):
-        """Beside the module, in its prefix, in its wheel, and by the loader; where it is nowhere the message has all four."""
+        """The library is searched beside the module, in its prefix, in its wheel, and by the loader. The message lists all four."""
         module, library = pathlib.Path(v_frame.__path__[0]), pathlib.Path(_library._library._name)
         with tempfile.TemporaryDirectory() as folder:
             room = pathlib.Path(folder).resolve()
@@ -182,7 +182,7 @@ class Libraries(unittest.TestCase):
 
 
 class Shapes(unittest.TestCase):
-    """Frames that do not fit the header, also where they have the right count of bytes."""
+    """Frames that do not fit the header, including those with the right number of bytes."""
 
     def refused(self, header, planes):
         stream = io.BytesIO()
@@ -216,7 +216,7 @@ class Shapes(unittest.TestCase):
             self.refused(bytes_, [numpy.zeros(shape, kind)])
         for shape, kind in (((4, 2), "uint16"), ((2, 4), "int16"), ((2, 4), "uint8"), ((2, 8), "uint8"), ((2, 4), ">u2"), ((2, 4), "float16")):
             self.refused(words, [numpy.zeros(shape, kind)])
-        # Of any strides, and of both kinds, each sample is written in its place.
+        # Samples are written in the right order for all strides and for both kinds of arrays.
         stream, whole = io.BytesIO(), numpy.arange(64, dtype="uint8").reshape(8, 8)
         y4m.write_y4m(stream, bytes_, [[whole[::4, ::2]], [whole.T[:2, :4]], [whole[7:5:-1, 4:]]])
         wanted = ([0, 2, 4, 6, 32, 34, 36, 38], [0, 8, 16, 24, 1, 9, 17, 25], [60, 61, 62, 63, 52, 53, 54, 55])
@@ -312,7 +312,7 @@ class Planes(unittest.TestCase):
     def test_measures_of_frames(self):
         y, other = Plane(bytes(16), 4, 4), Plane(bytes([0, 3] + 14 * [0]), 4, 4)
         u, v = Plane(bytes(4), 2, 2), Plane(bytes([0, 0, 2, 1]), 2, 2)
-        # Of all samples together, as the filter of ffmpeg weighs the planes.
+        # The measures are those of all samples together, as in ffmpeg's filter.
         self.assertEqual(v_frame.mse(Frame([y, u, u]), Frame([other, u, v])), 14 / 24)
         self.assertAlmostEqual(v_frame.psnr(Frame([y, u, u]), Frame([other, u, v])), 10 * math.log10(255 ** 2 * 24 / 14))
         self.assertEqual(v_frame.psnr(Frame([y, u, u]), Frame([y, u, u])), math.inf)

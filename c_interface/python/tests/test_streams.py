@@ -1,4 +1,4 @@
-"""YUV4MPEG2 streams read and written, and objects that read and write bytes, or do not: test_streams.py [--without-numpy]"""
+"""Tests reading and writing of YUV4MPEG2 streams, with file objects that work or fail: test_streams.py [--without-numpy]"""
 
 import set_up
 
@@ -29,7 +29,7 @@ class Streams(unittest.TestCase):
         self.assertEqual(written.getvalue(), self.LINE + b"\n" + data)
 
     def test_lax_lines_are_read(self):
-        """As `yuv` takes them. No other fault of a line is passed over."""
+        """Nonstandard lines are accepted as in `yuv`. All other errors in a line are reported."""
         data = b"YUV4MPEG2  W2 H1 F25 Cmono \r\nFRAME\r\n\x01\x02FRAME \r\n\x03\x04"
         header, frames = y4m.read_y4m(io.BytesIO(data))
         self.assertEqual(header, y4m.Header(2, 1, "mono", 8, (25, 1)))
@@ -92,7 +92,7 @@ class Streams(unittest.TestCase):
 
 
 class Writers(Room):
-    """Objects that write and read bytes, or do not."""
+    """File objects that write and read bytes, or fail to do so."""
 
     def test_writers_that_take_less(self):
         class Slow(io.BytesIO):
@@ -161,7 +161,7 @@ class Writers(Room):
         with y4m.Y4mWriter("work/a.y4m", HEADER) as writer:
             writer.write(frames_of((7,))[0])
             self.assertHas("work/a.y4m", GOOD)
-            # A frame that is refused is not there, and the next one is.
+            # A frame that is rejected is not written, and the next one is.
             self.assertRaises(y4m.Y4mError, writer.write, frames_of((7,))[0][:2])
             writer.write(Frame(frames_of((8,))[0]))
         self.assertHas("work/a.y4m", OTHER)

@@ -1,4 +1,4 @@
-"""What programs of users do: ranges and extensions of streams, errors that name the parameter, threads, and arrays of other classes:
+"""Tests typical uses: ranges and extensions of streams, errors that name the parameter, threads, and arrays of other classes:
 test_users.py [--without-numpy]"""
 
 import set_up
@@ -20,7 +20,7 @@ from v_frame import AccessError, Frame, KindError, NumberError, Plane, RowsError
 
 
 def bytes_of(plane):
-    """The samples of a plane or of an array."""
+    """Returns the samples of a plane or of an array."""
     return plane.tobytes()
 
 
@@ -29,7 +29,7 @@ def stream_of(parameters, *frames):
 
 
 def color(y, cb, cr, is_full):
-    """The 8-bit color of 8-bit BT.709 samples, by the formulas of ITU-R BT.709-6 in floating point."""
+    """Returns the 8-bit color of 8-bit BT.709 samples, by the formulas of ITU-R BT.709-6 in floating point."""
     luma, scale = (y / 255, 255) if is_full else ((y - 16) / 219, 224)
     blue, red = (cb - 128) / scale, (cr - 128) / scale
     r, b = luma + 2 * (1 - 0.2126) * red, luma + 2 * (1 - 0.0722) * blue
@@ -114,13 +114,13 @@ class Ranges(unittest.TestCase):
 
 
 def range_of_samples():
-    """The planes of a frame of 16 by 16 in which all three components vary."""
+    """Returns the planes of a frame of 16x16 pixels in which all three components vary."""
     places = [(x, y) for y in range(16) for x in range(16)]
     return [[16 + 13 * x for x, _ in places], [64 + 8 * y for _, y in places], [64 + 4 * (x + y) for x, y in places]]
 
 
 class Messages(unittest.TestCase):
-    """Each error names the parameter, what was found, and what is allowed."""
+    """Each error names the parameter, the value that was given, and the values that are allowed."""
 
     def test_messages(self):
         small, large, short = Plane(bytearray(4), 2, 2), Plane(bytearray(6), 3, 2), Plane(bytes(5), 3, 2)
@@ -194,7 +194,7 @@ class Pictures(unittest.TestCase):
             Plane(bytes(4), 3, 2).__array_interface__
 
     def test_samples_above_the_depth_saturate(self):
-        """As `convert` does: 1024 of 10 bits counts as 1023, which is 65472 in the top bits of a word."""
+        """As in `convert`, 1024 in 10 bits becomes 1023, which is 65472 in the top bits of a word."""
         def words(*values):
             return Plane(bytearray(b"".join(it.to_bytes(2, sys.byteorder) for it in values)), len(values), 1, sample_size=2)
         frame = Frame([words(1023, 1024, 65535, 5), words(1024, 0), words(2000, 1)], "422", 10)
@@ -264,7 +264,7 @@ class Arrays(unittest.TestCase):
 
     def test_a_subclass_cannot_say_another_shape(self):
         class Lying(numpy.ndarray):
-            """Its memory is that of 4 by 4 samples, whatever it says."""
+            """An array with the memory of 4x4 samples and a false shape."""
             shape = property(lambda self: (1 << 20, 1 << 20))
             strides = property(lambda self: (1 << 20, 1))
             ndim = property(lambda self: 2)

@@ -1,4 +1,4 @@
-"""Each call beside plain loops, each error, and views of arrays: test_v_frame.py [--without-numpy]"""
+"""Tests each call against simple loops, each error, and views of arrays: test_v_frame.py [--without-numpy]"""
 
 import set_up
 
@@ -25,7 +25,7 @@ def rows_of(plane):
 
 
 class Pictures(unittest.TestCase):
-    """Planes made of others beside plain loops, and the numbers that planes give."""
+    """Tests calls that create planes against simple loops, and calls that return numbers."""
 
     def setUp(self):
         source = random.Random(314)
@@ -93,7 +93,7 @@ class Pictures(unittest.TestCase):
         self.assertRaises(SizesError, v_frame.pair_statistics, Plane(bytes(4), 2, 2), Plane(bytes(2), 2, 1))
 
     def test_rgb(self):
-        # By the standards' own fractions, rounded to the nearest: red 255, gray, black and white of BT.709 in limited range.
+        # Calculated from the fractions of the standards, rounded to the nearest: red 255, gray, black and white of BT.709 in limited range.
         planes = [Plane(bytes(row), 4, 1) for row in ((63, 126, 16, 235), (102, 128, 128, 128), (240, 128, 128, 128))]
         self.assertEqual(bytes(v_frame.rgb(*planes).buffer), bytes([255, 1, 0, 128, 128, 128, 0, 0, 0, 255, 255, 255]))
         self.assertEqual(bytes(v_frame.rgb(*planes, order="bgra").buffer)[:8], bytes([0, 1, 255, 255, 128, 128, 128, 255]))
@@ -114,7 +114,7 @@ class Pictures(unittest.TestCase):
                 self.assertEqual(rows_of(halve(plane)), wanted)
 
     def test_resize(self):
-        # A numbered picture, and what numpy makes of it by blocks of the common multiple of both sizes.
+        # A plane with numbered samples. numpy calculated the result from blocks of the common multiple of both sizes.
         plane = Plane(bytes([11, 34, 103, 218, 123, 74, 48, 71, 140, 255, 160, 111, 85, 108, 177, 36, 197, 148, 122, 145, 214, 73, 234,
                              185]), 6, 4)
         self.assertEqual(rows_of(v_frame.resize_area(plane, 4, 3)), [[28, 89, 196, 100], [74, 136, 157, 146], [120, 182, 117, 192]])
@@ -141,7 +141,7 @@ class Pictures(unittest.TestCase):
             self.assertRaises(ValueError, v_frame.to_limited_range, luma, **wrong)
 
     def test_yuv(self):
-        # By the standards' own fractions, rounded to the nearest: red and gray.
+        # Calculated from the fractions of the standards, rounded to the nearest: red and gray.
         colors = Plane(bytes([255, 0, 0, 128, 128, 128]), 6, 1)
         self.assertEqual([rows_of(it) for it in v_frame.yuv(colors)], [[[63, 126]], [[102, 128]], [[240, 128]]])
         swapped = Plane(bytes([0, 0, 255, 7, 128, 128, 128, 9]), 8, 1)

@@ -1,4 +1,4 @@
-"""A program of a user with types, which `mypy --strict` accepts. Lines that end with `# error` are those that it has to reject."""
+"""A typed program of a user, which `mypy --strict` accepts. Lines that end with `# error` must be rejected."""
 
 import io
 

@@ -1,4 +1,4 @@
--- A text that is made part by part, one more.
+-- A text that is composed part by part, with one more part.
 use Rattle.std.proofs.Common.{ℕ, ◌≡◌, ◌+◌, ◌++◌, List, [], ◌∷◌, map, ap, sym, ◌∙◌, arith, flat_map, append_assoc, length, suc, add-zero, get_or, take, ◌<◌, length-take}
 use Rattle.std.specs.List.{enumerate_from, fold, range_with_len}
 use Rattle.std.specs.Prelude.{◌||◌, Bool, false}
@@ -27,7 +27,7 @@ marked_more part at n first old new more so_far =
     ∙ flat_map_more part first (map at (range_with_len 0 n)) (at n)
     ∙ ap (λ (ks : List ℕ). first ++ flat_map part ks) (sym (map-range_with_len_more at 0 n n (omega arith)))
 
--- two, three and four parts in a row
+-- Two, three and four parts that follow one another.
 pub joined : (text one two a b : List ℕ) → one ≡ text ++ a → two ≡ one ++ b → two ≡ text ++ (a ++ b)
 joined text one two a b first second =
     second ∙ ap (λ (t : List ℕ). t ++ b) first ∙ append_assoc text a b
@@ -42,7 +42,7 @@ pub joined4 : (text one two three four a b c d : List ℕ) → one ≡ text ++ a
 joined4 text one two three four a b c d first second third fourth =
     joined text one four a (b ++ (c ++ d)) first (joined3 one two three four b c d second third fourth)
 
--- one more item, with its index
+-- One more item, with its index.
 pub enumerate_more : {X : Type 0} (n : ℕ) (xs : List X) (x : X)
     → enumerate_from n (xs ++ x ∷ []) ≡ enumerate_from n xs ++ (n + length xs, x) ∷ []
 enumerate_more {X} n [] x = rw add-zero
@@ -65,7 +65,7 @@ entries_more {X} part xs k d first old new within more so_far =
     ∙ flat_map_more part first (enumerate_from 0 (take k xs)) (k, x)
     ∙ ap (λ (entries : List (ℕ × X)). first ++ flat_map part entries) (sym one_more)
 
--- whether one of the items passes a test, one more
+-- Whether one of the items passes a test, with one more item.
 pub any_more : {X : Type 0} (test : X → Bool) (xs : List X) (i : ℕ) (d : X) (old new passes : Bool) → i < length xs
     → new ≡ (old || passes) → old ≡ fold (λ found x. found || test x) false (take i xs) → passes ≡ test (get_or xs i d)
     → new ≡ fold (λ found x. found || test x) false (take (i + 1) xs)
@@ -76,7 +76,7 @@ any_more test xs i d old new passes within more so_far is =
 
 pub ruleset joins = (joined3, joined, append_assoc)
 
--- what an index past the end would read
+-- The value that an index past the end would read.
 abbrev pub no_series : Series
 no_series = record {
   name = record { ref_ptr = (0, 0); now = [] };

@@ -1,4 +1,4 @@
--- A chart, and one of which nothing was written.
+-- A chart, and a chart of which nothing was written.
 use Rattle.std.proofs.Common.{ℕ, ◌≡◌, ◌<◌, List, length, Option, OnErr, Result, refl, arith, Ok, Err}
 use Rattle.std.proofs.KnownBytes.{Appends-nil}
 use Rattle.v_frame_chart.specs.Charts.{chart_text, span_of, AppendsPartOfChart, IsChart}
@@ -13,12 +13,12 @@ pub charted : (chart : Chart) (scale : Scale) (step : ℕ) (text : List ℕ) →
 charted chart scale step text room steps drawn =
     record { scale = scale; step = step; room = room; steps = steps; drawn = drawn }
 
--- a chart has bytes
+-- A chart has at least one byte.
 pub some_bytes : (chart : Chart) (scale : Scale) (step : ℕ) → 0 < length (chart_text chart scale step)
 unfolding chart_text head_text opening
 some_bytes chart scale step = omega arith
 
--- none of them were written
+-- No byte of the chart was written.
 pub none_written : (chart : Chart) (scale : Scale) (step : ℕ) (old : Option (List ℕ)) → HasRoom scale chart.series.now
     → IsFrameStep (span_of chart.series.now) step → AppendsPartOfChart old old chart
 none_written chart scale step old room steps =

@@ -1,4 +1,4 @@
--- The least and the greatest finite values of series.
+-- The least and the greatest finite values of all series.
 use Rattle.std.proofs.Common.{ℕ, refl, ◌≡◌, ◌+◌, ◌<◌, ◌++◌, List, [], ◌∷◌, length, take, get_or, ap, ◌∙◌, true, false, Bool, cond, ◌&&◌, T, subst}
 use Rattle.std.specs.List.{fold}
 use Rattle.std.specs.Float.{float_is_finite, ◌≤ᶠ◌, NotNan}
@@ -14,7 +14,7 @@ use Rattle.v_frame_chart.specs.declared.scale.Scale.{Scale}
 use Rattle.v_frame_chart.specs.declared.drawing.Series.{Series}
 use Rattle.v_frame_chart.proofs.Appended.{no_series}
 
--- one more series
+-- One more series.
 pub gathered_more : (f : Float → Float → Float) (start : Float) (series : List Series) (k : ℕ) → k < length series
     → fold f start (finite (all_values (take (k + 1) series)))
     ≡ fold f (fold f start (finite (all_values (take k series)))) (finite (get_or series k no_series).values.now)
@@ -28,7 +28,7 @@ gathered_more f start series k within =
     ∙ ap (fold f start) (filter-append float_is_finite (all_values (take k series)) one.values.now)
     ∙ fold-append f start (finite (all_values (take k series))) (finite one.values.now)
 
--- nothing is above infinity, nor below minus infinity
+-- No number is above infinity or below minus infinity.
 pub not_above : (x : Float) → lt (inf false) x ≡ false
 unfolding lt
 not_above nan = refl
@@ -43,7 +43,7 @@ not_below (inf true) = refl
 not_below (inf false) = refl
 not_below (fin s m e) = refl
 
--- what is no NaN lies between the infinities
+-- A number that is not NaN lies between the infinities.
 pub above_all : (x : Float) → NotNan x → x ≤ᶠ inf false
 unfolding le lt eq is_nan
 above_all nan h = h
@@ -58,7 +58,7 @@ below_all (inf true) h = tt
 below_all (inf false) h = tt
 below_all (fin s m e) h = tt
 
--- a choice of one of two numbers, neither of which is a NaN
+-- A choice between two numbers is not NaN if neither of them is.
 chosen : (b : Bool) (x y : Float) → NotNan x → NotNan y → NotNan (cond b x y)
 chosen true x y first second = first
 chosen false x y first second = second
@@ -69,7 +69,7 @@ lesser_step x y first second = chosen (lt y x) y x second first
 greater_step : (x y : Float) → NotNan x → NotNan y → NotNan (greater x y)
 greater_step x y first second = chosen (lt x y) y x second first
 
--- so is a fold of such choices over finite values
+-- A fold of such choices over finite values is not NaN.
 pub folded : (f : Float → Float → Float) → ((x y : Float) → NotNan x → NotNan y → NotNan (f x y))
     → (start : Float) (values : List Float) → NotNan start → NotNan (fold f start (finite values))
 unfolding float_is_finite is_nan
@@ -93,7 +93,7 @@ all_three true true false h = cc
 all_three true false c h = cc
 all_three false b c h = cc
 
--- a test of a scale that was passed
+-- The scale passed a test.
 pub passed : (scale : Scale) (series : List Series) (low high : Float) → low ≡ least_of series → high ≡ most_of series
     → true ≡ is_between scale low high → HasRoom scale series
 unfolding is_between
@@ -106,7 +106,7 @@ passed scale series low high least most holds =
       high = subst (λ (x : Float). x ≤ᶠ value_at scale scale.count) most parts.2;
     }
 
--- a scale from minus infinity to infinity has room for all
+-- A scale from minus infinity to infinity contains all values.
 pub endless_room : (scale : Scale) (series : List Series) → value_at scale 0 ≡ inf true
     → value_at scale scale.count ≡ inf false → HasRoom scale series
 unfolding lt

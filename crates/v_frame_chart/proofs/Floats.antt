@@ -1,4 +1,4 @@
--- Zero, one and ten as the machine has them, and infinity with the other sign.
+-- The bits of zero, one and ten, and infinity with the opposite sign.
 use Rattle.std.proofs.Common.{◌≡◌, refl, true, false}
 use Rattle.std.specs.Prelude.{pos}
 use Rattle.std.specs.Float.{float_one, float_zero}

@@ -1,4 +1,4 @@
--- Marks at the top of a chart, for values that are infinite.
+-- Marks at the top of a chart, for infinite values.
 use Rattle.std.specs.Prelude.{ℕ, ◌+◌, ◌*◌, ◌/◌, ◌%◌, ◌++◌, ◌&&◌, ◌||◌, Bool, false, if◌then◌else◌, not, max, min}
 use Rattle.std.specs.Prelude.{List, [], codes, decimal, flat_map, length}
 use Rattle.std.specs.List.{fold, range_with_len}
@@ -11,30 +11,31 @@ use Rattle.v_frame_chart.specs.Places.{tenths_of, tenths_text}
 use Rattle.v_frame_chart.specs.Words.{color_of}
 use Rattle.v_frame_chart.specs.declared.axes.Axis.{Axis}
 
--- the value is infinite and above 0
+-- Whether the value is infinite and above 0.
 abbrev pub is_endless : Float → Bool
 is_endless value = lt float_zero value && not (float_is_finite value)
 
--- one of the values is
+-- Whether one of the values is infinite and above 0.
 abbrev pub has_endless : List Float → Bool
 has_endless values = fold (λ found value. found || is_endless value) false values
 
--- the width of a mark: of a column, and at most 12 pixels
+-- The width of a mark in pixels: the width of a column, and at most 12.
 abbrev pub mark_width : ℕ → ℕ
 mark_width columns = min (848 / max columns 1 + 1) 12
 
--- the distance of a row of marks from the upper side; there are three
+-- The distance of the row of marks of series `k` from the upper side, in pixels. There are three
+-- rows.
 abbrev pub row_of : ℕ → ℕ
 row_of k = 38 + 3 * (k % 3)
 
--- a mark, three pixels high
+-- A mark that is three pixels high.
 unfoldable pub top_mark : ℕ → ℕ → List ℕ
 top_mark tenths row = codes "M" ++ (tenths_text tenths ++ (codes " " ++ (decimal row ++ codes "v3")))
 
 abbrev pub endless_part : Bool → ℕ → ℕ → List ℕ
 endless_part is_there tenths row = if is_there then top_mark tenths row else []
 
--- a mark for column j, if it has an infinite value
+-- A mark for column `j`, if it has an infinite value.
 abbrev pub endless_at : Axis → List Float → ℕ → ℕ → ℕ → List ℕ
 endless_at across values columns row j =
     endless_part (has_endless (column_of values columns j))
@@ -45,13 +46,13 @@ endless_head color width =
     codes "<path fill=\"none\" stroke=\"" ++ (color ++ (codes "\" stroke-width=\""
     ++ (decimal width ++ codes "\" d=\"")))
 
--- the row of series k
+-- The row of marks of series `k`.
 unfoldable pub endless_row : Axis → List Float → ℕ → ℕ → List ℕ
 endless_row across values columns k =
     endless_head (color_of k) (mark_width columns)
     ++ (flat_map (endless_at across values columns (row_of k)) (range_with_len 0 columns) ++ path_end)
 
--- there is a row if the series has an infinite value
+-- The row of marks of series `k`, if the series has an infinite value.
 abbrev pub endless_text : Axis → List Float → ℕ → ℕ → List ℕ
 endless_text across values columns k =
     if has_endless values then endless_row across values columns k else []

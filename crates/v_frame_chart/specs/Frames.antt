@@ -1,4 +1,4 @@
--- The axis of frames: its marks are the frames whose numbers are multiples of a step.
+-- The axis of frames. Its marks are the frames whose numbers are multiples of a step.
 use Rattle.std.specs.Prelude.{ℕ, ◌≡◌, ◌+◌, ◌-◌, ◌*◌, ◌/◌, ◌%◌, ◌^◌, ◌≤◌, ◌<◌, ◌==◌, ◌++◌, codes, decimal}
 use Rattle.std.specs.Prelude.{flat_map, if◌then◌else◌, map, List, pos}
 use Rattle.std.specs.List.{range_with_len}
@@ -8,7 +8,7 @@ use Rattle.v_frame_chart.specs.Marks.{place_of}
 use Rattle.v_frame_chart.specs.Places.{tenths_of, tenths_text}
 use Rattle.v_frame_chart.specs.declared.axes.Axis.{Axis}
 
--- from the first frame, at the left, over so many more
+-- The axis from the first frame, at the left, to the frame `span` frames after it.
 unfoldable pub across_of : ℕ → Axis
 across_of span =
     record {
@@ -18,26 +18,26 @@ across_of span =
       end = of_int binary64 (pos 924);
     }
 
--- 1, 2, 5, 10, 20, 50 and so on
+-- The numbers 1, 2, 5, 10, 20, 50 and so on.
 unfoldable pub round_number : ℕ → ℕ
 round_number k = 10 ^ (k / 3) * (if k % 3 == 0 then 1 else (if k % 3 == 1 then 2 else 5))
 
--- the least of these of which the axis has at most eight
+-- The step is the least of these numbers that fits into the span at most eight times.
 pub record IsFrameStep (span step : ℕ) : Type 0 where
   pub index : ℕ
   pub round : step ≡ round_number index
   pub few : span ≤ 8 * step
   pub least : (k : ℕ) → k < index → 8 * round_number k < span
 
--- how many frames behind the first the first multiple of the step is
+-- The number of frames between the first frame and the first multiple of the step.
 unfoldable pub first_mark : ℕ → ℕ → ℕ
 first_mark first step = (step - first % step) % step
 
--- how many multiples of the step there are
+-- The number of multiples of the step.
 unfoldable pub mark_count : ℕ → ℕ → ℕ → ℕ
 mark_count first span step = (span + step - first_mark first step) / step
 
--- the mark and the number of a frame, so many behind the first
+-- The mark and the number of a frame.
 unfoldable pub frame_words : ℕ → ℕ → List ℕ
 frame_words tenths number =
     codes "<path d=\"M" ++ (tenths_text tenths
@@ -49,11 +49,11 @@ unfoldable pub frame_mark : Axis → ℕ → ℕ → List ℕ
 frame_mark across first index =
     frame_words (tenths_of (place_of across (of_int binary64 (pos index)))) (first + index)
 
--- both axes, and a mark for each multiple of the step
+-- Both axes, without marks.
 unfoldable pub axis_lines : List ℕ
 axis_lines = codes "<path d=\"M76 50V160H924\" fill=\"none\" stroke=\"#333333\"/>\n"
 
--- the multiples of the step, as so many frames behind the first
+-- The multiples of the step, each as the number of frames after the first one.
 unfoldable pub marked_frames : ℕ → ℕ → ℕ → List ℕ
 marked_frames first span step =
     map (λ k. first_mark first step + k * step) (range_with_len 0 (mark_count first span step))

@@ -1,4 +1,4 @@
--- The axis of numbers has room for each finite value.
+-- The axis of numbers contains each finite value.
 use Rattle.std.specs.Prelude.{◌&&◌, Bool, List, flat_map, false, true}
 use Rattle.std.specs.List.{fold}
 use Rattle.std.specs.Float.{◌<ᶠ◌, ◌≤ᶠ◌}
@@ -8,24 +8,25 @@ use Rattle.v_frame_chart.specs.Scales.{value_at}
 use Rattle.v_frame_chart.specs.declared.drawing.Series.{Series}
 use Rattle.v_frame_chart.specs.declared.scale.Scale.{Scale}
 
--- the values of all series
+-- The values of all series.
 abbrev pub all_values : List Series → List Float
 all_values series = flat_map (λ one. one.values.now) series
 
--- the least and the greatest of those that are finite
+-- The least and the greatest of the finite values.
 unfoldable pub least_of : List Series → Float
 least_of series = fold lesser (inf false) (finite (all_values series))
 
 unfoldable pub most_of : List Series → Float
 most_of series = fold greater (inf true) (finite (all_values series))
 
--- two numbers lie between the ends of a scale
+-- Whether two numbers lie between the ends of a scale, and the second end is greater than the
+-- first.
 unfoldable pub is_between : Scale → Float → Float → Bool
 is_between scale low high =
     lt (value_at scale 0) (value_at scale scale.count)
     && (le (value_at scale 0) low && le high (value_at scale scale.count))
 
--- the scale rises, and the finite values of all series lie between its ends
+-- The scale rises, and the finite values of all series lie between its ends.
 pub record HasRoom (scale : Scale) (series : List Series) : Type 0 where
   pub rises : value_at scale 0 <ᶠ value_at scale scale.count
   pub low : value_at scale 0 ≤ᶠ least_of series

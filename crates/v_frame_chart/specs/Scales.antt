@@ -1,4 +1,4 @@
--- The axis of numbers: where its marks stand, and what their labels say.
+-- The axis of numbers: the places of its marks, and the texts of its labels.
 use Rattle.std.specs.Prelude.{ℕ, zero, suc, ◌+◌, ◌-◌, ◌*◌, ◌/◌, ◌%◌, ◌^◌, ◌+ℤ◌, ◌++◌, if◌then◌else◌, nat_le, ◌==◌, codes, decimal, flat_map, List, ℤ, pos, unsigned_abs}
 use Rattle.std.specs.Fmt.{sign_text}
 use Rattle.std.specs.Int.{is_negative}
@@ -20,16 +20,17 @@ digit_size One = 1
 digit_size Two = 2
 digit_size Five = 5
 
--- the whole number of mark k, which stands for so many times its power of ten
+-- The whole number of mark `k`. The value of the mark is this number multiplied by the power of
+-- ten.
 unfoldable pub number_at : Scale → ℕ → ℤ
 number_at scale k = scale.low +ℤ pos (k * digit_size scale.digit)
 
--- a power of ten in floats, exact to the 22nd
+-- A power of ten as a float, exact up to 10 ^ 22.
 unfoldable pub ten_power : ℕ → Float
 ten_power zero = float_one
 ten_power (suc p) = mul binary64 (ten_power p) (of_int binary64 (pos 10))
 
--- the float that a whole number stands for
+-- The float nearest to a whole number times a power of ten.
 unfoldable pub value_of : ℤ → Power → Float
 value_of n (Times p) = mul binary64 (of_int binary64 n) (ten_power p)
 value_of n (Over p) = div binary64 (of_int binary64 n) (ten_power p)
@@ -37,7 +38,7 @@ value_of n (Over p) = div binary64 (of_int binary64 n) (ten_power p)
 abbrev pub value_at : Scale → ℕ → Float
 value_at scale k = value_of (number_at scale k) scale.power
 
--- the axis goes from its first mark, at the bottom, to its last, at the top
+-- The axis from its first mark, at the bottom, to its last, at the top.
 unfoldable pub down_of : Scale → Axis
 down_of scale =
     record {
@@ -47,16 +48,17 @@ down_of scale =
       end = of_int binary64 (pos 50);
     }
 
--- the last p digits of a number, one by one
+-- The last `p` digits of a number.
 unfoldable pub last_digits : ℕ → ℕ → List ℕ
 last_digits m p = flat_map (λ k. decimal (m / 10 ^ (p - 1 - k) % 10)) (range_with_len 0 p)
 
--- with an exponent, but for zero
+-- A number with an exponent, or 0 without one.
 abbrev pub exponent_text : ℕ → List ℕ → ℕ → List ℕ
 exponent_text m letters p =
     if m == 0 then codes "0" else (decimal m ++ (letters ++ decimal p))
 
--- what a size stands for: with a point where the power of ten is small, and else with an exponent
+-- A size as text: with a decimal point if the power of ten is small, and with an exponent
+-- otherwise.
 unfoldable pub size_text : ℕ → Power → List ℕ
 size_text m (Times p) =
     if nat_le p 9 then decimal (m * 10 ^ p) else exponent_text m (codes "e") p
@@ -67,7 +69,7 @@ size_text m (Over p) =
 unfoldable pub label_of : ℤ → Power → List ℕ
 label_of n power = sign_text (is_negative n) ++ size_text (unsigned_abs n) power
 
--- a line across the picture at a mark, and its label
+-- A line across the picture at a mark, and its label.
 unfoldable pub line_head : ℕ → List ℕ
 line_head tenths =
     codes "<path d=\"M76 " ++ (tenths_text tenths
@@ -79,6 +81,6 @@ grid_line scale k =
     line_head (tenths_of (place_of (down_of scale) (value_at scale k)))
     ++ (label_of (number_at scale k) scale.power ++ text_end)
 
--- one for each mark, both ends too
+-- A line for each mark, including both ends.
 unfoldable pub grid_text : Scale → List ℕ
 grid_text scale = flat_map (grid_line scale) (range_with_len 0 (scale.count + 1))

@@ -1,21 +1,21 @@
--- What is written besides the lines: the head, the title, the names of the axes, and the legend.
+-- The texts of the picture: the head, the title, the names of the axes, and the legend.
 use Rattle.std.specs.Prelude.{ℕ, ◌%◌, List, [], ◌∷◌, ◌++◌, codes, flat_map, slice_index_or}
 use Rattle.std.specs.List.{enumerate_from}
 use Rattle.v_frame_chart.specs.Labels.{escaped_words}
 use Rattle.v_frame_chart.specs.declared.drawing.Series.{Series}
 
--- colors that people tell apart who see few: those of Okabe and Ito, without the yellow, which is
--- pale on white
+-- Colors that people with color blindness can distinguish: those of Okabe and Ito, without yellow,
+-- which is hard to see on white.
 abbrev pub colors : List (List ℕ)
 colors =
     codes "#0072b2" ∷ codes "#d55e00" ∷ codes "#009e73" ∷ codes "#cc79a7" ∷ codes "#e69f00"
     ∷ codes "#56b4e9" ∷ codes "#000000" ∷ []
 
--- the color of series k
+-- The color of series `k`.
 unfoldable pub color_of : ℕ → List ℕ
 color_of k = slice_index_or colors (k % 7) []
 
--- a text with these attributes
+-- A text element with these attributes.
 unfoldable pub text_head : List ℕ → List ℕ
 text_head attributes = codes "<text " ++ (attributes ++ codes ">")
 
@@ -25,7 +25,7 @@ text_end = codes "</text>\n"
 unfoldable pub text_of : List ℕ → List ℕ → List ℕ
 text_of attributes words = text_head attributes ++ (escaped_words words ++ text_end)
 
--- the head of the file: 960 by 200 pixels, white
+-- The head of the file: a white picture of 960 by 200 pixels.
 unfoldable pub opening : List ℕ
 opening =
     codes "<svg xmlns=\"http://www.w3.org/2000/svg\" width=\"960\" height=\"200\" "
@@ -35,7 +35,8 @@ opening =
 unfoldable pub closing : List ℕ
 closing = codes "</svg>\n"
 
--- the title, the unit above the labels of the axis of numbers, and a word below the axis of frames
+-- The title, the unit above the labels of the axis of numbers, and the name of the axis of frames
+-- below it.
 unfoldable pub title_of : List ℕ → List ℕ
 title_of title = text_of (codes "x=\"76\" y=\"16\" font-size=\"14\" font-weight=\"bold\"") title
 
@@ -48,7 +49,7 @@ frame_word = text_of (codes "x=\"500\" y=\"194\" text-anchor=\"middle\"") (codes
 unfoldable pub head_text : List ℕ → List ℕ → List ℕ
 head_text title unit = opening ++ (title_of title ++ (unit_of unit ++ frame_word))
 
--- the legend: a sample of the color of each series, and its name
+-- The legend: a sample of the color of each series, followed by its name.
 unfoldable pub sample_of : List ℕ → List ℕ
 sample_of color =
     codes "<tspan dx=\"20\" font-size=\"18\" font-weight=\"bold\" fill=\""

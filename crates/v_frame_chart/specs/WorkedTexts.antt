@@ -1,4 +1,4 @@
--- Small texts of charts worked out by hand. Each line computes: it is proved by `refl`.
+-- Short texts of charts that were derived by hand. Each one is proved by computation (`refl`).
 use Rattle.std.specs.Prelude.{ℕ, ◌≡◌, ◌++◌, List, [], ◌∷◌, false, pos, negsuc, Option, Some, None, codes, flat_map, refl}
 use Rattle.std.specs.Fmt.{digits}
 use Rattle.std.specs.List.{range_with_len}
@@ -15,12 +15,12 @@ use Rattle.v_frame_chart.specs.declared.drawing.Series.{Series}
 use Rattle.v_frame_chart.specs.declared.marks.Mark.{Mark}
 use Rattle.v_frame_chart.specs.declared.scale.Power.TheVariants.{Times, Over}
 
--- 76.25 is nearest to two tenths alike, and goes up
+-- The place 76.25 is equally near to two tenths, and is rounded up.
 quarter : place_text (fin false 305 (negsuc 1)) ≡ codes "76.3"
 unfolding tenths_of round_with mul of_int to_unsigned digits
 quarter = refl
 
--- labels are exact decimals
+-- Labels are exact decimal numbers.
 hundredths : label_of (pos 125) (Over 2) ≡ codes "1.25"
 unfolding label_of size_text last_digits digits
 hundredths = refl
@@ -41,12 +41,12 @@ very_small : label_of (pos 2) (Over 10) ≡ codes "2e-10"
 unfolding label_of size_text digits
 very_small = refl
 
--- of the frames 1 to 12 the even ones have marks: the first is one behind frame 1
+-- Of the frames 1 to 12, the even ones have marks. The first of them is one frame after frame 1.
 even_frames : marked_frames 1 11 2 ≡ 1 ∷ 3 ∷ 5 ∷ 7 ∷ 9 ∷ 11 ∷ []
 unfolding marked_frames first_mark mark_count
 even_frames = refl
 
--- from frame 0 on, both ends
+-- If the first frame is 0, both ends have marks.
 both_ends : marked_frames 0 10 5 ≡ 0 ∷ 5 ∷ 10 ∷ []
 unfolding marked_frames first_mark mark_count
 both_ends = refl
@@ -55,7 +55,7 @@ no_frames : marked_frames 11 3 20 ≡ []
 unfolding marked_frames first_mark mark_count
 no_frames = refl
 
--- three columns at 1, 2 and 3 pixels, with a gap before the last
+-- Three columns at 1, 2 and 3 pixels, with a gap before the last one.
 one : Float
 one = fin false 1 (pos 0)
 
@@ -71,7 +71,7 @@ drawn =
     ∷ Some (record { x = two; least = three; mean = three; most = one })
     ∷ None ∷ Some (record { x = three; least = two; mean = one; most = one }) ∷ []
 
--- the line begins anew behind the gap
+-- The line begins again after the gap.
 line_with_gap : flat_map (mean_at drawn) (range_with_len 0 4)
     ≡ codes "M1.0 2.0L2.0 3.0M3.0 1.0"
 unfolding one two three tenths_of round_with mul of_int to_unsigned digits
@@ -81,13 +81,13 @@ strokes : flat_map stroke_of drawn ≡ codes "M1.0 3.0V1.0M2.0 3.0V1.0M3.0 2.0V1
 unfolding one two three tenths_of round_with mul of_int to_unsigned digits
 strokes = refl
 
--- the last column alone stands between gaps
+-- Only the last column is between two gaps.
 one_dot : dots_text drawn (codes "#d55e00")
     ≡ codes "<circle cx=\"3.0\" cy=\"1.0\" r=\"2\" fill=\"#d55e00\"/>\n"
 unfolding one two three tenths_of round_with mul of_int to_unsigned digits dots_text circle_of
 one_dot = refl
 
--- names are escaped, and stand behind the colors of their series
+-- Names are escaped, and follow the colors of their series.
 abbrev named : List ℕ → Series
 named words = record {
   name = record { ref_ptr = (0, 0); now = words };

@@ -16,7 +16,7 @@ pub(crate) fn push_label(text: &mut String, number: i64, power: Power) -> Result
     Ok(())
 }
 
-/// Appends a minus.
+/// Appends a minus sign if `negative` is true.
 fn push_sign(text: &mut String, negative: bool) -> Result<(), AllocError>
     ensures { OnOk result (string_bytes text.new ≡ string_bytes text.old ++ sign_text negative) }
 {
@@ -67,7 +67,7 @@ fn push_multiplied(text: &mut String, size: u64, p: u32) -> Result<(), AllocErro
     write!(text, "{whole}")
 }
 
-/// Appends a size over a small power of ten.
+/// Appends a size divided by a small power of ten.
 #[tactic(auto, using(crate::proofs::Appended::joins))]
 fn push_divided(text: &mut String, size: u64, p: u32) -> Result<(), AllocError>
     requires { p ≤ 9 }
@@ -80,7 +80,7 @@ fn push_divided(text: &mut String, size: u64, p: u32) -> Result<(), AllocError>
     Ok(())
 }
 
-/// Appends the last digits of a number.
+/// Appends the last `count` digits of a number.
 #[tactic(auto, unfolding(crate::specs::Scales::last_digits))]
 fn push_last_digits(text: &mut String, number: u64, count: u32) -> Result<(), AllocError>
     requires { count ≤ 9 }

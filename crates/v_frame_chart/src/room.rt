@@ -100,7 +100,7 @@ fn minus_infinity() -> f64
     f64::NEG_INFINITY
 }
 
-/// Returns whether the ends of a scale rise, and two numbers lie between them.
+/// Returns whether the second end of a scale is greater than the first, and two numbers lie between its ends.
 #[tactic(auto, unfolding(crate::specs::Room::is_between))]
 fn is_between(scale: &Scale, low: f64, high: f64) -> bool
     ensures { result ≡ the_between scale.now low high }

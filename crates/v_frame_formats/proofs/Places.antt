@@ -1,4 +1,4 @@
--- The place of each format in the table: no two have one short name.
+-- The index of each format in the table. No two formats have the same short name.
 use Rattle.std.proofs.Common.{ℕ, ◌≡◌, ◌≢◌, ◌⊎◌, ◌+◌, ◌<◌, ◌≤◌, Bool, true, List, get_or, refl, sym, ◌∙◌, ap, arith, lit<}
 use Rattle.std.proofs.Common.{rules, subst}
 use Rattle.std.specs.Prelude.{None, Some}
@@ -14,7 +14,7 @@ use Rattle.v_frame_formats.specs.declared.format.VideoFormat.{VideoFormat}
 use Rattle.v_frame_formats.specs.declared.format.VideoFormat.TheVariants.{Planar, SemiPlanar}
 use Rattle.v_frame_formats.specs.declared.format.TheConstants.{FORMATS}
 
--- the place of a format, by its short name
+-- The index of a format, by its short name.
 abbrev pub format_place : VideoFormat → ℕ
 format_place f = position_or_len (λ g. bytes_eq (short_name g) (short_name f)) FORMATS
 

@@ -24,7 +24,7 @@ abbrev pub format_depth : VideoFormat → ℕ
 format_depth (Planar color) = depth_of color
 format_depth (SemiPlanar layout) = sample_depth_of layout
 
--- what the header of a stream has for the subsampling and the bit depth of a layout
+-- The color that a header states for the subsampling and the bit depth of an interleaved layout.
 abbrev pub color_of_layout : SemiPlanarFormat → Color
 color_of_layout Nv12 = Yuv420
 color_of_layout Nv21 = Yuv420
@@ -38,7 +38,8 @@ abbrev pub format_color : VideoFormat → Color
 format_color (Planar color) = color
 format_color (SemiPlanar layout) = color_of_layout layout
 
--- the short name: of planes one after the other, what YUV4MPEG2 has for them
+-- The short name of an interleaved layout. For planar formats, the short name is the one that
+-- YUV4MPEG2 uses.
 abbrev pub layout_text : SemiPlanarFormat → List ℕ
 layout_text Nv12 = codes "nv12"
 layout_text Nv21 = codes "nv21"
@@ -52,7 +53,8 @@ abbrev pub short_name : VideoFormat → List ℕ
 short_name (Planar color) = color_text color
 short_name (SemiPlanar layout) = layout_text layout
 
--- the name of ffmpeg's pixel format, or the short one where ffmpeg has no name for it alone
+-- The name of ffmpeg's pixel format, or the short name if no pixel format of ffmpeg has exactly
+-- this meaning.
 abbrev pub ffmpeg_color : Color → List ℕ
 ffmpeg_color Unstated = []
 ffmpeg_color Yuv420 = codes "420"
@@ -81,8 +83,8 @@ abbrev pub ffmpeg_name : VideoFormat → List ℕ
 ffmpeg_name (Planar color) = ffmpeg_color color
 ffmpeg_name (SemiPlanar layout) = ffmpeg_layout layout
 
--- the name that people type, in lower case: the one of ffmpeg without its `le`, and i420 and the like;
--- for other formats, the short name
+-- The name that people usually type, in lower case: the name of ffmpeg without its `le`, or one
+-- such as i420. Other formats have the short name.
 abbrev pub common_color : Color → List ℕ
 common_color Unstated = []
 common_color Yuv420 = codes "420"
@@ -102,16 +104,16 @@ abbrev pub common_name : VideoFormat → List ℕ
 common_name (Planar color) = common_color color
 common_name (SemiPlanar layout) = layout_text layout
 
--- every format has names, but for the color of a header that states none
+-- The format has names. All formats do, except for the color of a header that states none.
 abbrev pub IsNamed : VideoFormat → Type 0
 IsNamed (Planar color) = stated color ≡ Some color
 IsNamed (SemiPlanar layout) = ⊤
 
--- the two names differ in nothing but the case of their letters
+-- The two names are equal, except for the case of letters.
 abbrev pub IsSameName : List ℕ → List ℕ → Type 0
 IsSameName one other = IsTrue (str_eq_ignore_ascii_case one other)
 
--- the text is one of the three names
+-- The text is one of the three names of the format.
 abbrev pub IsNameOf : VideoFormat → List ℕ → Type 0
 IsNameOf format text =
     IsSameName text (short_name format)
@@ -120,7 +122,7 @@ IsNameOf format text =
 abbrev pub IsFormat : VideoFormat → List ℕ → Type 0
 IsFormat format text = IsNamed format × IsNameOf format text
 
--- the format of samples of full range, by the names that ffmpeg has for these
+-- The format with full range that has this name in ffmpeg.
 abbrev pub full_range_format : List ℕ → Option VideoFormat
 full_range_format text =
     if str_eq_ignore_ascii_case text (codes "yuvj420p") then Some (Planar Yuv420Jpeg)

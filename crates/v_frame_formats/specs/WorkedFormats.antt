@@ -1,4 +1,4 @@
--- Names of formats worked out by hand. Each line computes: it is proved by `refl`.
+-- Names of formats that were derived by hand. Each one is proved by computation (`refl`).
 use Rattle.std.specs.Prelude.{◌≡◌, codes, refl, true, None, Some}
 use Rattle.std.specs.Str.{str_eq_ignore_ascii_case}
 use Rattle.v_frame_formats.specs.Formats.{common_name, ffmpeg_name, full_range_format, short_name}
@@ -25,7 +25,7 @@ common_is = refl
 common_of_gray_is : common_name (Planar Mono) ≡ codes "gray8"
 common_of_gray_is = refl
 
--- I420 is i420
+-- The names I420 and i420 are the same.
 upper_case_is : str_eq_ignore_ascii_case (codes "I420") (common_name (Planar Yuv420Jpeg)) ≡ true
 upper_case_is = refl
 

@@ -89,7 +89,8 @@ impl VideoFormat {
         }
     }
 
-    /// Returns the short name: for planar formats the one that YUV4MPEG2 uses, as `420p10`; else `nv12`, `p010` and the like.
+    /// Returns the short name: for planar formats the one that YUV4MPEG2 uses, as `420p10`; for others a name as `nv12` or
+    /// `p010`.
     pub fn short_name(self) -> &'static str
         ensures { result.now ≡ name_in_short self }
     {
@@ -99,7 +100,8 @@ impl VideoFormat {
         }
     }
 
-    /// Returns the name of ffmpeg's pixel format, as `yuv420p10le`; or the short name if ffmpeg has no name for this format alone.
+    /// Returns the name of ffmpeg's pixel format, as `yuv420p10le`, or the short name if no pixel format of ffmpeg has exactly
+    /// this meaning.
     pub fn ffmpeg_name(self) -> &'static str
         ensures { result.now ≡ name_in_ffmpeg self }
     {
@@ -109,8 +111,8 @@ impl VideoFormat {
         }
     }
 
-    /// Returns the name that people type: `I420`, `I422`, `I444`, `gray8`, or the one that ffmpeg has without its `le`. For other
-    /// formats, returns the short name. In lower case.
+    /// Returns the name that people usually type, in lower case: `i420`, `i422`, `i444`, `gray8`, or the name of ffmpeg without
+    /// its `le`. For other formats, returns the short name.
     pub fn common_name(self) -> &'static str
         ensures { result.now ≡ name_in_common self }
     {
@@ -170,7 +172,7 @@ impl VideoFormat {
     }
 }
 
-/// Returns whether two names differ in nothing but the case of their letters.
+/// Returns whether two names are equal, except for the case of letters.
 fn is_same_name(name: &str, other: &str) -> bool
     ensures { IsTrue result ↔ IsSameName name.now other.now }
 {
@@ -260,7 +262,7 @@ fn color_name_in_ffmpeg(color: Color) -> &'static str
     }
 }
 
-/// Returns the name that people type for planes of a color, in lower case.
+/// Returns the name that people usually type for planes of a color, in lower case.
 fn common_color_name(color: Color) -> &'static str
     ensures { result.now ≡ common_color color }
 {

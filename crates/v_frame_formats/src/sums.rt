@@ -5,7 +5,7 @@ ghost use Rattle.v_frame_formats.specs.Sums.{added, added_chroma, at_most, multi
 /// A whole number for each plane of a frame.
 #[derive(Debug, Clone, Copy, PartialEq, Eq)]
 pub struct PlaneSums {
-    /// The number of luma.
+    /// The number of the luma plane.
     pub y: u128,
     /// The number of the first chroma plane, if there is one.
     pub u: Option<u128>,
@@ -14,7 +14,7 @@ pub struct PlaneSums {
 }
 
 impl PlaneSums {
-    /// Returns the sum of each plane. A chroma plane has one if both have the plane. Sums saturate at `u128::MAX`.
+    /// Returns the sum for each plane. A chroma plane has a sum if both numbers exist. Sums saturate at `u128::MAX`.
     pub fn plus(&self, more: &PlaneSums) -> Self
         ensures { result ≡ added self.now more.now }
     {
@@ -25,7 +25,7 @@ impl PlaneSums {
         }
     }
 
-    /// Returns each number multiplied by a factor. Products saturate at `u128::MAX`.
+    /// Returns each number multiplied by `count`. Products saturate at `u128::MAX`.
     pub fn times(&self, count: u64) -> Self
         ensures { result ≡ multiplied self.now count }
     {

@@ -1,5 +1,5 @@
--- What a call leaves if the picture is rejected, if a request for memory fails, and if there is a
--- file.
+-- The effect of a call if the picture is rejected, if there is not enough memory, and if a file is
+-- created.
 use Rattle.std.proofs.Common.{ℕ, ◌≡◌, ◌<◌, ◌⊎◌, inl, inr, List, refl, arith}
 use Rattle.v_frame_png.specs.Prelude.{IsFile}
 use Rattle.v_frame_png.specs.declared.header.Header.{Header}

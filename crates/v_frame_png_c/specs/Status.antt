@@ -1,4 +1,4 @@
--- The statuses of an export other than those of the tests of the picture.
+-- The statuses of an export that do not come from the tests of the picture.
 use Rattle.std.specs.Prelude.{ℕ}
 
 abbrev pub out_of_memory : ℕ

@@ -1,9 +1,9 @@
--- Pictures worked out by hand. Each line computes: it is proved by `refl`.
+-- Pictures that were calculated by hand. Each one is proved by computation (`refl`).
 use Rattle.std.specs.Prelude.{ℕ, ◌≡◌, [], ◌∷◌, refl}
 use Rattle.v_frame_png_c.specs.Picture.{rows_of, status_of}
 use Rattle.v_frame_png_c.specs.declared.picture.Picture.{Picture}
 
--- 2 by 2 pixels of red, green and blue, from one row to the next 7 samples
+-- A picture of 2x2 pixels of red, green and blue. Each row begins 7 samples after the one before.
 abbrev small : Picture
 small = record { width = 2; height = 2; stride = 7; color = 1; compression = 1 }
 
@@ -11,7 +11,7 @@ its_rows : rows_of {T = ℕ} small (1 ∷ 2 ∷ 3 ∷ 4 ∷ 5 ∷ 6 ∷ 0 ∷ 7 
     ≡ (1 ∷ 2 ∷ 3 ∷ 4 ∷ 5 ∷ 6 ∷ []) ∷ (7 ∷ 8 ∷ 9 ∷ 10 ∷ 11 ∷ 12 ∷ []) ∷ []
 its_rows = refl
 
--- the last row may end at its width
+-- The last row may end at its width.
 thirteen_samples : status_of small 13 ≡ 0
 thirteen_samples = refl
 

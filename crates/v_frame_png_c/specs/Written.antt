@@ -1,10 +1,11 @@
--- A file in the front of a buffer, and what a call leaves that writes one there.
+-- A PNG file at the beginning of a buffer, and the effect of the calls that write it there.
 use Rattle.std.specs.Prelude.{ℕ, ◌≡◌, ◌≢◌, ◌<◌, ◌≤◌, ◌++◌, ◌⊎◌, List, drop, length}
 use Rattle.v_frame_png.specs.Prelude.{IsFile}
 use Rattle.v_frame_png.specs.declared.header.Header.{Header}
 use Rattle.v_frame_png_c.specs.Status.{out_of_memory, short_buffer}
 
--- the bytes are at the front of a buffer, whose rest is unchanged; or the buffer is shorter
+-- The bytes are at the beginning of the buffer and the rest is unchanged, or the buffer is too
+-- short and is unchanged. The number of bytes is stored in `needed` in both cases.
 pub record IsPutInFront (bytes old new : List ℕ) (needed status : ℕ) : Type 0 where
   pub answer : (status ≡ 0) ⊎ (status ≡ short_buffer)
   pub count : needed ≡ length bytes
@@ -13,8 +14,9 @@ pub record IsPutInFront (bytes old new : List ℕ) (needed status : ℕ) : Type 
   pub short : status ≡ short_buffer → length old < length bytes
   pub kept : status ≢ 0 → new ≡ old
 
--- a file of this header and these rows is in front, as long as is told; where the buffer is too
--- short, it would be so long. What is refused for a fault is so, and changes nothing
+-- If the status is 0, a file with this header and these rows is at the beginning of the buffer, and
+-- `new_needed` is its length. If the buffer is too short, `new_needed` is the length that it would
+-- need. A picture with a fault is rejected with the status of the fault, and nothing is changed.
 pub record IsWritten (h : Header) (rows : List (List ℕ)) (fault : ℕ) (old new : List ℕ)
     (needed new_needed status : ℕ) : Type 0
   where

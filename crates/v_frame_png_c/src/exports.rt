@@ -1,4 +1,4 @@
-//! The calls of the library for C.
+//! The functions of the library for C.
 ghost use Rattle.std.specs.Prelude.{length, map};
 ghost use Rattle.v_frame_png.specs.Prelude.{big_endian};
 ghost use Rattle.v_frame_png_c.specs.Picture.{header_by, rows_of, samples_of_bytes, samples_of_words, status_of};

@@ -1,4 +1,4 @@
-//! Pictures as the bytes of files, and the bytes in a buffer of C.
+//! Pictures as the bytes of PNG files, and their copies in a buffer of C.
 ghost use Rattle.std.specs.Prelude.{map, IfOk};
 ghost use Rattle.v_frame_png.specs.Prelude.{big_endian, IsFile};
 ghost use Rattle.v_frame_png_c.specs.Written.{IsPutInFront};
@@ -9,7 +9,11 @@ use std::alloc::Global;
 use v_frame::plane::RowsRef;
 use v_frame_png::{Compression, Header, PngError, PngWriter, write_png_with};
 
-/// Returns the bytes of a file of samples of one byte.
+/// Returns the bytes of a PNG file with samples of one byte.
+///
+/// # Errors
+///
+/// A [`PngError`] if there is not enough memory, or if the rows do not fit the header.
 pub fn file_of_bytes(
     alloc: Global,
     header: Header,
@@ -22,7 +26,11 @@ pub fn file_of_bytes(
     Ok(file.into_bytes())
 }
 
-/// Returns the bytes of a file of samples of two bytes.
+/// Returns the bytes of a PNG file with samples of two bytes.
+///
+/// # Errors
+///
+/// A [`PngError`] if there is not enough memory, or if the rows do not fit the header.
 pub fn file_of_words(
     alloc: Global,
     header: Header,
@@ -37,8 +45,8 @@ pub fn file_of_words(
     Ok(png.into_inner().into_bytes())
 }
 
-/// Copies a file to the front of a buffer, and sets `needed` to the number of its bytes. If the buffer is shorter, nothing is
-/// copied.
+/// Copies a file to the beginning of a buffer, and sets `needed` to the length of the file in bytes. If the buffer is shorter,
+/// nothing is copied. Returns the status.
 pub fn put_in_front(file: &[u8], buffer: &mut [u8], needed: &mut usize) -> u32
     ensures put { IsPutInFront file.now buffer.old buffer.new needed.new result }
 {

@@ -1,7 +1,7 @@
-//! Pictures in the memory of C, written as PNG files in the memory of C.
+//! Pictures in the memory of a C program, written as PNG files to its memory.
 //!
-//! The calls take memory by `malloc` while they run, and are therefore in another library than those of `v_frame_c`. The header
-//! `c_interface/include/v_frame_png.h` declares the exports.
+//! The functions allocate memory with `malloc` while they run, so they are in a different library than those of `v_frame_c`. The
+//! header `c_interface/include/v_frame_png.h` declares the exports.
 #![tactic(auto)]
 
 mod exports;

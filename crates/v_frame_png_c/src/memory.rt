@@ -1,10 +1,10 @@
-//! A file that is written into memory.
+//! A writer that collects a file in memory.
 ghost use Rattle.std.specs.Prelude.{◌≡◌, []};
 
 use std::alloc::Global;
 use std::io;
 
-/// The bytes of a file so far. A write fails if a request for memory fails.
+/// The bytes of the file so far. A write fails if there is not enough memory.
 #[derive(Drop)]
 pub struct Memory {
     bytes: Vec<u8>,

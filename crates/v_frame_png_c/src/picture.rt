@@ -1,4 +1,4 @@
-//! A picture in numbers. Any bytes in the struct are a valid value.
+//! A picture as C describes it. All bit patterns are valid values of the struct.
 ghost use Rattle.std.specs.Prelude.{◌≡◌, ◌<◌, ◌≤◌, ◌^◌, IsTrue, SomeIff, length};
 ghost use Rattle.v_frame.specs.Prelude.{strided_rows};
 ghost use Rattle.v_frame_png_c.specs.Picture.{compression_by, entries_by, fits, fits_in, header_by, is_known, is_size, rows_of, samples_of_bytes, samples_of_words};
@@ -6,11 +6,11 @@ ghost use Rattle.v_frame_png_c.specs.Picture.{compression_by, entries_by, fits, 
 use v_frame::plane::RowsRef;
 use v_frame_png::{ColorSpace, Compression, Header, Samples};
 
-/// The least width and height that PNG does not allow.
+/// The least width and height that are too large for PNG.
 const LIMIT: usize = 0x8000_0000;
 
-/// A picture: its size in pixels, the number of samples from the beginning of one row to the next, and the numbers of its color
-/// and its compression.
+/// A picture: its width and height in pixels, the number of samples from the beginning of one row to the beginning of the next,
+/// and the numbers of its color and its compression.
 #[repr(C)]
 pub struct Picture {
     pub width: usize,
@@ -21,14 +21,14 @@ pub struct Picture {
 }
 
 impl Picture {
-    /// Returns whether the numbers are those of a color and of a compression.
+    /// Returns whether the numbers of the color and the compression are valid.
     pub fn is_known(&self) -> bool
         ensures { result ≡ is_known self.now }
     {
         self.color < 2 && self.compression < 2
     }
 
-    /// Returns whether a PNG can have the width and the height.
+    /// Returns whether a PNG file can have this width and height.
     pub fn is_size(&self) -> bool
         ensures { result ≡ is_size self.now }
     {
@@ -48,7 +48,7 @@ impl Picture {
         }
     }
 
-    /// Returns how a pixel is made of samples of one byte.
+    /// Returns the kind of samples for a picture with samples of one byte.
     pub fn samples_of_bytes(&self) -> Samples
         ensures { result ≡ samples_of_bytes self.now.color }
     {
@@ -59,7 +59,7 @@ impl Picture {
         }
     }
 
-    /// Returns how a pixel is made of samples of two bytes.
+    /// Returns the kind of samples for a picture with samples of two bytes.
     pub fn samples_of_words(&self) -> Samples
         ensures { result ≡ samples_of_words self.now.color }
     {
@@ -70,7 +70,7 @@ impl Picture {
         }
     }
 
-    /// Returns how the data is compressed.
+    /// Returns the method of compression.
     pub fn compression(&self) -> Compression
         ensures { result ≡ compression_by self.now.compression }
     {
@@ -81,7 +81,7 @@ impl Picture {
         }
     }
 
-    /// Returns the rows of samples, or `None` if they do not fit.
+    /// Returns the rows of `samples`, or `None` if they do not fit.
     pub fn rows<'a, T>(&self, samples: &'a [T]) -> Option<RowsRef<'a, T>>
         requires { self.now.width < 2 ^ 31 }
         ensures { SomeIff result (IsTrue (fits self.now (length samples.now))) (rows_of self.now samples.now) }
@@ -94,7 +94,7 @@ impl Picture {
         )
     }
 
-    /// Returns the samples of a pixel.
+    /// Returns the number of samples in a pixel.
     fn entries(&self) -> usize
         ensures value { result ≡ entries_by self.now.color }
         ensures few { result ≤ 3 }
@@ -103,7 +103,7 @@ impl Picture {
     }
 }
 
-/// Returns rows of samples, or `None` if they do not fit.
+/// Returns the rows of `samples`, or `None` if they do not fit.
 fn rows_in<T>(samples: &[T], width: usize, height: usize, stride: usize) -> Option<RowsRef<'_, T>>
     ensures { SomeIff result (IsTrue (fits_in width height stride (length samples.now)))
         (strided_rows width height stride samples.now) }

@@ -1,24 +1,25 @@
--- What each call promises: its status, what holds if the status is 0, and what is unchanged.
+-- The meaning of each call: its status, the property that holds if the status is 0, and its effect
+-- on buffers and results.
 use Rattle.std.specs.Prelude.{ℕ, ◌≡◌, ◌≢◌, Bool, List, length}
 use Rattle.v_frame.specs.Prelude.{KeepsRest, Table}
 use Rattle.v_frame_slices.specs.Layout.{fits, picture}
 use Rattle.v_frame_slices.specs.Status.{same_size, status_of_number, status_of_two}
 use Rattle.v_frame_slices.specs.declared.layout.Rows.{Rows}
 
--- the entries of a buffer outside of its rows are unchanged, and all of them if the call fails
+-- The entries of a buffer outside its rows are unchanged, and all entries are if the call fails.
 pub record Keeps {T : Type 0} (rows : Rows) (old new : List T) (status : ℕ) : Type 0 where
   pub rest : KeepsRest rows.width rows.height rows.stride old new
   pub refused : status ≢ 0 → new ≡ old
 
--- the status is the given one; if it is 0, the result has the given meaning, and otherwise it is
--- unchanged
+-- The status is `wanted`. If it is 0, the result has the given meaning; otherwise it is unchanged.
 pub record Answers {A : Type 0} (wanted : ℕ) (meaning : Type 0) (old new : A)
     (status : ℕ) : Type 0 where
   pub answer : status ≡ wanted
   pub found : status ≡ 0 → meaning
   pub refused : status ≢ 0 → new ≡ old
 
--- the same for a buffer, whose entries outside of the rows are unchanged
+-- The status is `wanted`. If it is 0, the buffer has the given meaning. Entries outside the rows
+-- are always unchanged, and all entries are unchanged if the status is not 0.
 pub record Writes {T : Type 0} (wanted : ℕ) (meaning : Type 0) (rows : Rows) (old new : List T)
     (status : ℕ) : Type 0 where
   pub answer : status ≡ wanted
@@ -26,13 +27,14 @@ pub record Writes {T : Type 0} (wanted : ℕ) (meaning : Type 0) (rows : Rows) (
   pub rest : KeepsRest rows.width rows.height rows.stride old new
   pub refused : status ≢ 0 → new ≡ old
 
--- two pictures of one size that are compared
+-- The status of a call that compares two pictures of the same size.
 abbrev pub status_of_pair : {T : Type 0} → Rows → Rows → List T → List T → ℕ
 status_of_pair a_rows b_rows a b =
     status_of_two (fits a_rows (length a)) (fits b_rows (length b)) (same_size a_rows b_rows)
 
--- rows that are made from others: whether the numbers are those of choices, whether the rows of
--- both buffers fit, and whether their sizes are those that the call requires
+-- The rows are calculated from other rows. The two truth values state whether the numbers of
+-- choices are valid, and whether the sizes are those that the call requires. The rows of both
+-- buffers must fit.
 module _ {S T : Type 0} (rows source_rows : Rows) (source : List S) (old new : List T)
     (status : ℕ) where
   abbrev pub Makes : Bool → Bool → Type 0 → Type 0
@@ -41,6 +43,6 @@ module _ {S T : Type 0} (rows source_rows : Rows) (source : List S) (old new : L
       (fits source_rows (length source)) sizes))
       meaning rows old new status
 
-  -- the rows show the given picture
+  -- The rows show the given picture.
   abbrev pub Shows : Bool → Bool → Table T → Type 0
   Shows known sizes table = Makes known sizes (picture rows new ≡ table)

@@ -1,4 +1,5 @@
--- Interleaved chroma, made of two planes and separated again, by itself and in whole frames.
+-- Interleaved chroma that is combined from two planes and separated again, by itself and in
+-- complete frames.
 use Rattle.std.specs.Prelude.{ℕ, ◌≡◌, ◌&&◌, List, length}
 use Rattle.v_frame_slices.specs.Calls.{Keeps, Writes}
 use Rattle.v_frame_slices.specs.Layout.{fits, picture}
@@ -9,7 +10,8 @@ use Rattle.v_frame_ops.specs.Prelude.{combined}
 use Rattle.v_frame_semi_planar.specs.Interleaved.{interleaved}
 
 module _ {T : Type 0} (rows u_rows v_rows : Rows) where
-  -- rows, and the rows of u and of v, with the sizes that the call requires
+  -- The status of a call with interleaved rows, and with the rows of u and of v. The call requires
+  -- certain sizes of them.
   abbrev status_of_turns : List T → List T → List T → ℕ
   status_of_turns buffer u v =
       status_of_three (fits rows (length buffer)) (fits u_rows (length u)) (fits v_rows (length v))
@@ -29,7 +31,7 @@ module _ {T : Type 0} (rows u_rows v_rows : Rows) where
     pub v_kept : Keeps v_rows v new_v status
 
 module _ {T : Type 0} (format : ℕ) (y_rows uv_rows source_rows u_rows v_rows : Rows) where
-  -- luma is the source, and chroma is u and v interleaved
+  -- Luma is the source, and chroma is u and v interleaved.
   pub record IsSemiPlanarOf (y new_y uv new_uv source u v : List T) (status : ℕ) : Type 0 where
     pub answer : status ≡ status_of_format (is_semi_planar format)
         (status_of_five (fits y_rows (length y)) (fits uv_rows (length uv))
@@ -42,7 +44,7 @@ module _ {T : Type 0} (format : ℕ) (y_rows uv_rows source_rows u_rows v_rows :
     pub y_kept : Keeps y_rows y new_y status
     pub uv_kept : Keeps uv_rows uv new_uv status
 
-  -- luma is the source, and u and v interleaved are its chroma
+  -- Luma is the source, and u and v interleaved are its chroma.
   pub record ArePlanesOf (y new_y u new_u v new_v source uv : List T) (status : ℕ) : Type 0 where
     pub answer : status ≡ status_of_format (is_semi_planar format)
         (status_of_five (fits y_rows (length y)) (fits u_rows (length u)) (fits v_rows (length v))

@@ -1,11 +1,13 @@
--- A picture that is copied to another one at any place: pixels outside of that one are left out.
+-- A picture that is copied to any place of another picture. Pixels outside the other picture are
+-- left out.
 use Rattle.std.specs.Prelude.{ℕ, ℤ, ◌≡◌, ◌<◌}
 use Rattle.v_frame.specs.Prelude.{Table, pixel_at}
 use Rattle.v_frame_ops.specs.Prelude.{LiesOn}
 use Rattle.v_frame_slices.specs.declared.layout.Rows.{Rows}
 
--- with its first pixel at column x of row y, either of which may be negative, each pixel of the
--- source that is inside of the picture replaces the pixel there, and all other pixels are unchanged
+-- The first pixel of the source is put at column `x` of row `y`, either of which may be negative.
+-- Each pixel of the source that is inside the picture replaces the pixel there, and all other
+-- pixels are unchanged.
 pub record IsPutOn {T : Type 0} (x y : ℤ) (rows source_rows : Rows)
     (source old new : Table T) : Type 0 where
   pub inside : (i j k l : ℕ) → i < source_rows.width → j < source_rows.height → k < rows.width

@@ -1,4 +1,5 @@
--- A kind of colors as C states it: the numbers of a standard, of a range and of an order of bytes.
+-- A kind of colors as C specifies it: the numbers of a standard, of a range and of an order of
+-- bytes.
 use Rattle.std.specs.Prelude.{ℕ, ◌==◌, Bool, ◌&&◌, if◌then◌else◌, List, [], ◌∷◌, nat_lt, slice_index}
 use Rattle.v_frame_rgb.specs.Prelude.{Color, ColorRange, Standard, RgbMatrix, YuvMatrix}
 use Rattle.v_frame_rgb.specs.Prelude.{rgb_matrix_of, yuv_matrix_of}
@@ -6,8 +7,9 @@ use Rattle.v_frame_rgb.specs.declared.standard.Standard.TheVariants.{Bt601, Bt70
 use Rattle.v_frame_rgb.specs.declared.standard.ColorRange.TheVariants.{Limited, Full}
 use Rattle.v_frame_slices.specs.declared.colors.ColorChoice.{ColorChoice}
 
--- BT.601, BT.709, BT.2020; limited and full range; red, green, blue first, or blue, green, red,
--- each without and with a fourth byte
+-- Whether the numbers are valid. The standards are BT.601, BT.709 and BT.2020. The ranges are
+-- limited and full. The orders begin with red, green and blue or with blue, green and red, each
+-- without and with a fourth byte.
 abbrev pub is_choice : ColorChoice → Bool
 is_choice choice = nat_lt choice.standard 3 && (nat_lt choice.range 2 && nat_lt choice.order 4)
 
@@ -33,7 +35,7 @@ bytes_by order color =
     else (if order == 2 then color.red ∷ color.green ∷ color.blue ∷ 255 ∷ []
     else color.blue ∷ color.green ∷ color.red ∷ 255 ∷ []))
 
--- the color of three bytes, from the one that holds red, the one of green, and the one of blue
+-- The color of a pixel, from the indexes of its bytes for red, green and blue.
 abbrev pub color_from : ℕ → ℕ → ℕ → List ℕ → Color
 color_from red green blue pixel =
     record {
@@ -42,7 +44,7 @@ color_from red green blue pixel =
       blue = slice_index pixel blue;
     }
 
--- the color of a pixel's bytes, where a fourth does not count
+-- The color of a pixel's bytes. A fourth byte is ignored.
 abbrev pub color_by : ℕ → List ℕ → Color
 color_by order =
     if order == 0 then color_from 0 1 2

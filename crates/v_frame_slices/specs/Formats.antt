@@ -1,8 +1,8 @@
--- The numbers that formats have for C.
+-- The numbers of formats in C.
 use Rattle.std.specs.Prelude.{ℕ, ◌==◌, if◌then◌else◌, Option, Some, None}
 use Rattle.v_frame.specs.Prelude.{ChromaSubsampling, Yuv420, Yuv422, Yuv411, Yuv444, Monochrome}
 
--- the number of a format
+-- The number of a format.
 abbrev pub format_number : ChromaSubsampling → ℕ
 format_number Monochrome = 0
 format_number Yuv420 = 1
@@ -10,7 +10,7 @@ format_number Yuv422 = 2
 format_number Yuv444 = 3
 format_number Yuv411 = 4
 
--- the format of a number
+-- The format with a number.
 abbrev pub numbered_format : ℕ → Option ChromaSubsampling
 numbered_format number =
     if number == 0 then Some Monochrome

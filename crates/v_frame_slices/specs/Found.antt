@@ -1,4 +1,4 @@
--- The results of calls on a picture, and on two pictures of one size.
+-- The results of calls on a picture, and on two pictures of the same size.
 use Rattle.std.specs.Prelude.{ℕ, ◌≡◌, ◌≢◌, ◌↔◌, List, length, nat_lt}
 use Rattle.std.specs.Float.Ieee.{Float}
 use Rattle.std.specs.Int.{abs_diff}
@@ -20,14 +20,15 @@ use Rattle.v_frame_measures.specs.Prelude.{mean_error, peak_of, ssim_of}
 use Rattle.v_frame_ops.specs.Prelude.{IsFirstDifference}
 use Rattle.v_frame_statistics.specs.Prelude.{passing_pairs}
 
--- the first place, row after row, that differs, or no place if the pictures are the same
+-- The place is the first one, in the order of rows, at which the pictures differ, or no place if
+-- they are equal.
 pub record IsFirstPlace {T : Type 0} (a b : Table T) (place : Place) : Type 0 where
   pub none : (place ≡ nowhere) ↔ (a ≡ b)
   pub found : place ≢ nowhere → place.found ≡ 1
   pub first : place ≢ nowhere → IsFirstDifference a b place.x place.y
 
 module _ {T : Type 0} (a_rows b_rows : Rows) (a b : List T) where
-  -- what holds of their pictures
+  -- A call compares two pictures, and its result has the given meaning.
   abbrev Compares : {A : Type 0} → A → A → ℕ → Type 0 → Type 0
   Compares old new status meaning = Answers
       (status_of_pair a_rows b_rows a b) meaning old new status
@@ -59,7 +60,7 @@ module _ {T : Type 0} (a_rows b_rows : Rows) (a b : List T) where
     FindsGreatest old new status = Compares old new status
         (IsGreatest form.value (picture a_rows a) (picture b_rows b) new)
 
-    -- the pairs that differ by more than a threshold
+    -- The result is the number of pairs of pixels that differ by more than a threshold.
     abbrev pub CountsAbove : ℕ → ℕ → ℕ → ℕ → Type 0
     CountsAbove threshold old new status =
         Compares old new status
@@ -70,7 +71,8 @@ module _ {T : Type 0} (a_rows b_rows : Rows) (a b : List T) where
     MeasuresError old new status = Compares old new status
         (new ≡ mean_error form.value (picture a_rows a) (picture b_rows b))
 
-    -- pixels of the given number of bytes can have values of the bit depth, and a window fits
+    -- Pixels of the given number of bytes can have values of the bit depth, and a window fits into
+    -- the pictures.
     abbrev pub MeasuresSimilarity : ℕ → ℕ → Float → Float → ℕ → Type 0
     MeasuresSimilarity bytes depth old new status =
         Answers (status_of_number (is_depth bytes depth)

@@ -1,5 +1,5 @@
--- The planes of a frame in one buffer, one after the other. Chroma covers luma, whether the ratio
--- divides the size or not. The border of luma is as wide as the request, or wider until the ratio
+-- The planes of a frame in one buffer, one after the other. Chroma covers luma, whether or not the
+-- ratio divides the size. The border of luma is as wide as requested, or wider so that the ratio
 -- divides it.
 use Rattle.std.specs.Prelude.{ℕ, ◌+◌, ◌*◌, Bool, ◌&&◌, if◌then◌else◌, Option, Some, None}
 use Rattle.std.specs.Int.{div_ceil}
@@ -11,7 +11,7 @@ use Rattle.v_frame_slices.specs.declared.frame_parts.FrameRequest.{FrameRequest}
 use Rattle.v_frame_slices.specs.declared.frame_parts.FrameParts.{FrameParts}
 use Rattle.v_frame_slices.specs.declared.frame_parts.PlanePart.{PlanePart}
 
--- a picture with paddings on the left and the right, and above and below
+-- A picture with one padding on the left and the right, and one above and below.
 abbrev pub evenly_bordered : ℕ → ℕ → ℕ → ℕ → Bordered
 evenly_bordered width height across down =
     record {
@@ -23,13 +23,13 @@ evenly_bordered width height across down =
       pad_bottom = down;
     }
 
--- luma, with a border that divides
+-- Luma, with a border that the ratio divides.
 abbrev pub luma_in : FrameRequest → ℕ × ℕ → Bordered
 luma_in r ratio =
     evenly_bordered r.width r.height (div_ceil r.padding ratio.0 * ratio.0)
     (div_ceil r.padding ratio.1 * ratio.1)
 
--- chroma beside it
+-- The chroma planes of this luma.
 abbrev pub chroma_in : FrameRequest → ℕ × ℕ → Bordered
 chroma_in r ratio =
     evenly_bordered (div_ceil r.width ratio.0) (div_ceil r.height ratio.1)
@@ -38,7 +38,7 @@ chroma_in r ratio =
 abbrev pub size_of : Bordered → ℕ
 size_of b = alloc_size_of (geometry_in b)
 
--- a plane that begins at an index of the buffer, and a plane that is missing
+-- A plane that begins at an index of the buffer, and a missing plane.
 abbrev pub part_at : ℕ → Bordered → PlanePart
 part_at offset b = record { offset = offset; count = size_of b; layout = b }
 
@@ -50,7 +50,7 @@ no_part =
       layout = evenly_bordered 0 0 0 0;
     }
 
--- the parts of a frame without chroma, and of one with it
+-- The parts of a frame without chroma, and of a frame with chroma.
 abbrev pub luma_parts : Bordered → FrameParts
 luma_parts luma =
     record { y = part_at 0 luma; u = no_part; v = no_part; count = size_of luma }
@@ -68,13 +68,13 @@ abbrev pub parts_by : FrameRequest → Option (ℕ × ℕ) → FrameParts
 parts_by r None = luma_parts (luma_in r (1, 1))
 parts_by r (Some ratio) = all_parts (luma_in r ratio) (chroma_in r ratio)
 
--- whether each plane could be addressed
+-- Whether each plane can be addressed.
 abbrev pub fits_by : FrameRequest → Option (ℕ × ℕ) → Bool
 fits_by r None = is_bordered (luma_in r (1, 1)) usize_max
 fits_by r (Some ratio) =
     is_bordered (luma_in r ratio) usize_max && is_bordered (chroma_in r ratio) usize_max
 
--- 4 if there is no such format, 1 if a plane does not fit
+-- The status: 4 if there is no such format, 1 if a plane can't be addressed, and 0 otherwise.
 abbrev pub status_by : FrameRequest → Option ChromaSubsampling → ℕ
 status_by r None = 4
 status_by r (Some format) = if fits_by r (ratio_of format) then 0 else 1

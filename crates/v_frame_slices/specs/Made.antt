@@ -1,4 +1,4 @@
--- Pictures that calls make from others, or change in place, and their borders.
+-- Pictures that calls calculate from other pictures, or change in place, and their borders.
 use Rattle.std.specs.Prelude.{ℕ, ℤ, ◌≡◌, ◌+◌, ◌*◌, ◌<◌, Bool, true, ◌&&◌, ◌≢◌, List, drop, length, map, nat_le, nat_lt, replicate, slice_get, take, Some}
 use Rattle.v_frame.specs.Prelude.{alloc_size_of, bytes_of_pixels, halved, pixel_at, raster, table_of, two_bytes, PixelForm, Table}
 use Rattle.v_frame_slices.specs.Calls.{Makes, Shows, Writes}
@@ -16,7 +16,7 @@ use Rattle.v_frame_raster.specs.Pixel.{pixels_of_bytes}
 use Rattle.v_frame_resize.specs.Prelude.{area_mean, nearest}
 use Rattle.v_frame_turn.specs.Prelude.{turned}
 
--- every pixel is this one
+-- Every pixel is `pixel`.
 abbrev pub IsFilled : {T : Type 0} → Rows → T → List T → List T → ℕ → Type 0
 IsFilled rows pixel old new status =
     Writes (status_of_one (fits rows (length old)))
@@ -32,7 +32,7 @@ module _ {T : Type 0} (rows source_rows : Rows) (source old new : List T) (statu
   abbrev pub IsCopied : Type 0
   IsCopied = shows true (same_size rows source_rows) (picture source_rows source)
 
-  -- put at column x of row y
+  -- The source is put at column `x` of row `y`.
   abbrev pub IsCopiedTo : ℤ → ℤ → Type 0
   IsCopiedTo x y = makes true true (IsPutOn x y rows source_rows (picture source_rows source)
       (picture rows old) (picture rows new))
@@ -63,7 +63,8 @@ module _ {T : Type 0} (rows source_rows : Rows) (source old new : List T) (statu
         ≡ Some (form.pixel_of (area_mean form
         (picture source_rows source) rows.width rows.height x y)))
 
-    -- of exactly half the size
+    -- Each row is calculated from two rows of the source, which is exactly twice as wide and twice
+    -- as high.
     abbrev pub IsHalved : Type 0
     IsHalved =
         makes true (times_size 2 rows source_rows)
@@ -71,13 +72,13 @@ module _ {T : Type 0} (rows source_rows : Rows) (source old new : List T) (statu
         → slice_get (picture source_rows source) (2 * y + 1) ≡ Some bottom
         → slice_get (picture rows new) y ≡ Some (halved form top bottom))
 
-    -- the mean of a number of columns and rows
+    -- Each pixel is the mean of a number of columns and rows of the source.
     abbrev pub IsScaled : ℕ → ℕ → Scale → Scale → Type 0
     IsScaled ratio_x ratio_y across down =
         shows true (subsampled_size ratio_x ratio_y source_rows rows)
         (scaled form form.pixel_of across down rows.width rows.height (picture source_rows source))
 
-    -- the weight of the source, in 256ths
+    -- The pictures are blended. The weight of the source is given in 256ths.
     abbrev pub IsBlended : ℕ → Type 0
     IsBlended weight =
         shows (nat_le weight 256) (same_size rows source_rows)
@@ -91,14 +92,14 @@ module _ {T : Type 0} (rows source_rows : Rows) (source old new : List T) (statu
           (combined (combined (difference_of form gain depth)) (picture rows old)
           (picture source_rows source))
 
-      -- from the limited range to the full one, or back
+      -- The pixels are converted from limited range to full range, or back.
       abbrev pub IsInRange : Bool → ℕ → ℕ → Type 0
       IsInRange full component depth =
           shows (is_component component && is_depth bytes depth) (same_size rows source_rows)
           (converted (converted (pixel_by form (change_by full (component_by component) depth)))
           (picture source_rows source))
 
-    -- the weight of the source, in 255ths, which a mask states
+    -- The pictures are blended. A mask gives the weight of the source in 255ths.
     abbrev pub IsBlendedByMask : Rows → List ℕ → Type 0
     IsBlendedByMask mask_rows mask =
         Writes (status_of_three (fits rows (length old)) (fits source_rows (length source))
@@ -111,7 +112,7 @@ module _ {T : Type 0} (rows source_rows : Rows) (source old new : List T) (statu
 
 module _ {S T : Type 0} (rows source_rows : Rows) (source : List S) (old new : List T)
     (status : ℕ) where
-  -- pixels of the given number of bytes in another bit depth
+  -- The pixels are converted to another bit depth, with the given number of bytes.
   abbrev pub IsAtDepth : PixelForm S → PixelForm T → ℕ → ℕ → ℕ → ℕ → Type 0
   IsAtDepth form other bytes other_bytes from to =
       Shows rows source_rows source old new status (is_depth bytes from && is_depth other_bytes to)
@@ -131,8 +132,8 @@ module _ (rows source_rows : Rows) (source old new : List ℕ) (status : ℕ) wh
       (encoded_size two_bytes.size source_rows rows)
       (map (bytes_of_pixels two_bytes) (picture source_rows source))
 
--- each entry of the border is the nearest pixel; the picture and all entries after the border are
--- unchanged
+-- Each entry of the border is a copy of the nearest pixel. The picture and all entries after the
+-- border are unchanged.
 pub record PadsBorder {T : Type 0} (layout : Bordered) (old new : List T)
     (status : ℕ) : Type 0 where
   pub answer : status ≡ status_of_one (is_bordered layout (length old))

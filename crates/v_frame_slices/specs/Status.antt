@@ -1,32 +1,32 @@
--- The status of an export: that of the first test that fails.
+-- The status of an export, which is that of the first test that fails.
 use Rattle.std.specs.Prelude.{ℕ, ◌*◌, Bool, true, false, ◌&&◌, nat_eq}
 use Rattle.v_frame_slices.specs.declared.layout.Rows.{Rows}
 
--- one buffer: whether its rows fit it
+-- The status for one buffer: its rows must fit.
 abbrev pub status_of_one : Bool → ℕ
 status_of_one false = 1
 status_of_one true = 0
 
--- one buffer, and whether its size is the one that the call requires
+-- The status for one buffer whose size the call restricts.
 abbrev pub status_of_sized : Bool → Bool → ℕ
 status_of_sized false sizes = 1
 status_of_sized true false = 3
 status_of_sized true true = 0
 
--- two buffers: whether the rows of each fit it, and whether their sizes are those that the call
--- requires
+-- The status for two buffers: the rows of each must fit, and the sizes must be those that the call
+-- requires.
 abbrev pub status_of_two : Bool → Bool → Bool → ℕ
 status_of_two false second sizes = 1
 status_of_two true false sizes = 2
 status_of_two true true false = 3
 status_of_two true true true = 0
 
--- the number of a choice, which is tested first
+-- The status for a call with the number of a choice, which is tested first.
 abbrev pub status_of_number : Bool → ℕ → ℕ
 status_of_number false others = 5
 status_of_number true others = others
 
--- three buffers
+-- The status for three buffers.
 abbrev pub status_of_three : Bool → Bool → Bool → Bool → ℕ
 status_of_three false second third sizes = 1
 status_of_three true false third sizes = 2
@@ -34,7 +34,7 @@ status_of_three true true false sizes = 6
 status_of_three true true true false = 3
 status_of_three true true true true = 0
 
--- four buffers
+-- The status for four buffers.
 abbrev pub status_of_four : Bool → Bool → Bool → Bool → Bool → ℕ
 status_of_four false second third fourth sizes = 1
 status_of_four true false third fourth sizes = 2
@@ -43,7 +43,7 @@ status_of_four true true true false sizes = 7
 status_of_four true true true true false = 3
 status_of_four true true true true true = 0
 
--- five buffers
+-- The status for five buffers.
 abbrev pub status_of_five : Bool → Bool → Bool → Bool → Bool → Bool → ℕ
 status_of_five false second third fourth fifth sizes = 1
 status_of_five true false third fourth fifth sizes = 2
@@ -53,19 +53,20 @@ status_of_five true true true true false sizes = 9
 status_of_five true true true true true false = 3
 status_of_five true true true true true true = 0
 
--- a format, which is tested before all rows
+-- The status for a call with a format, which is tested before all rows.
 abbrev pub status_of_format : Bool → ℕ → ℕ
 status_of_format false others = 4
 status_of_format true others = others
 
--- the sizes are the same
+-- Whether the sizes are the same.
 abbrev pub same_size : Rows → Rows → Bool
 same_size a b = nat_eq a.width b.width && nat_eq a.height b.height
 
--- the sizes of the second are a multiple of those of the first
+-- Whether the width and the height of the second rows are `n` times those of the first.
 abbrev pub times_size : ℕ → Rows → Rows → Bool
 times_size n a b = nat_eq b.width (n * a.width) && nat_eq b.height (n * a.height)
 
--- the second rows have the height of the first, and a number of entries for each of theirs
+-- Whether the second rows have the height of the first, and `n` entries for each entry of the
+-- first.
 abbrev pub encoded_size : ℕ → Rows → Rows → Bool
 encoded_size n a b = nat_eq b.width (n * a.width) && nat_eq b.height a.height

@@ -11,17 +11,18 @@ use Rattle.v_frame_slices.specs.declared.layout.Rows.{Rows}
 use Rattle.v_frame_ops.specs.Prelude.{combined, mapped}
 use Rattle.v_frame_semi_planar.specs.Interleaved.{interleaved}
 
--- words with samples of a bit depth in their top bits: the bits of a sample above the depth are
--- lost
+-- Words that have samples of a bit depth in their top bits. The bits of a sample above the depth
+-- are lost.
 abbrev pub in_top_bits : ℕ → Table ℕ → Table ℕ
 in_top_bits depth samples = mapped (mapped (λ p. p * 2 ^ (16 - depth) % 2 ^ 16)) samples
 
--- the samples of such words: the lower bits of a word are lost
+-- The samples in the top bits of words. The lower bits of a word are lost.
 abbrev pub of_top_bits : ℕ → Table ℕ → Table ℕ
 of_top_bits depth words = mapped (mapped (λ p. p / 2 ^ (16 - depth))) words
 
 module _ (depth format : ℕ) (y_rows uv_rows source_rows u_rows v_rows : Rows) where
-  -- luma has the source in its top bits, and chroma has u and v, interleaved
+  -- The words of luma have the samples of the source in their top bits. The words of chroma have
+  -- those of u and v, interleaved.
   pub record AreInTopBits (y new_y uv new_uv source u v : List ℕ) (status : ℕ) : Type 0 where
     pub answer : status ≡ status_of_number (is_depth 2 depth)
         (status_of_format (is_semi_planar format)
@@ -36,8 +37,8 @@ module _ (depth format : ℕ) (y_rows uv_rows source_rows u_rows v_rows : Rows) 
     pub y_kept : Keeps y_rows y new_y status
     pub uv_kept : Keeps uv_rows uv new_uv status
 
-  -- luma is what the source has in its top bits, and u and v, interleaved, are what its chroma has
-  -- there
+  -- Luma has the samples in the top bits of the source's words. The planes u and v have those of
+  -- the interleaved chroma.
   pub record AreOfTopBits (y new_y u new_u v new_v source uv : List ℕ) (status : ℕ) : Type 0 where
     pub answer : status ≡ status_of_number (is_depth 2 depth)
         (status_of_format (is_semi_planar format)

@@ -1,4 +1,4 @@
--- Numbers of choices worked out by hand. Each line computes: it is proved by `refl`.
+-- Numbers of choices that were calculated by hand. Each one is proved by computation (`refl`).
 use Rattle.std.specs.Prelude.{ℕ, ◌≡◌, [], ◌∷◌, true, false, refl}
 use Rattle.v_frame.specs.Prelude.{Table, one_byte}
 use Rattle.v_frame_convert.specs.declared.range.Component.TheVariants.{Chroma}
@@ -35,22 +35,22 @@ second_component = refl
 no_third_component : is_component 2 ≡ false
 no_third_component = refl
 
--- blue first, and a fourth byte
+-- The order with blue first and a fourth byte.
 blue_first : bytes_by 1 (color_by 3 (7 ∷ 8 ∷ 9 ∷ 1 ∷ [])) ≡ 7 ∷ 8 ∷ 9 ∷ []
 blue_first = refl
 
--- both ends count
+-- Both ends of the range are included.
 two_of_four : count_between one_byte.value 2 3 (1 ∷ 2 ∷ 3 ∷ 4 ∷ []) ≡ 2
 two_of_four = refl
 
 none_between : count_between one_byte.value 3 2 (1 ∷ 2 ∷ 3 ∷ 4 ∷ []) ≡ 0
 none_between = refl
 
--- 10 bits: 64 times the sample, and the low bits of a larger sample
+-- In 10 bits, each word is 64 times the sample. Only the low bits of a larger sample are kept.
 p010 : in_top_bits 10 ((1 ∷ 1023 ∷ 1025 ∷ []) ∷ []) ≡ (64 ∷ 65472 ∷ 64 ∷ []) ∷ []
 p010 = refl
 
--- low bits that are not used are lost
+-- Low bits that are not used are lost.
 of_p010 : of_top_bits 10 ((64 ∷ 65535 ∷ 127 ∷ []) ∷ []) ≡ (1 ∷ 1023 ∷ 1 ∷ []) ∷ []
 of_p010 = refl
 

@@ -1,9 +1,9 @@
--- The parts of a frame worked out by hand. Each line computes: it is proved by `refl`.
+-- The parts of a frame, calculated by hand. Each example is proved by computation (`refl`).
 use Rattle.std.specs.Prelude.{◌≡◌, ◌+◌, refl}
 use Rattle.v_frame_slices.specs.FrameParts.{chroma_in, evenly_bordered, frame_parts, frame_status, luma_in, size_of}
 use Rattle.v_frame_slices.specs.declared.frame_parts.FrameRequest.{FrameRequest}
 
--- 5 by 3 pixels of 4:2:0 with a padding of 1, which the ratio makes 2
+-- A frame of 5 by 3 pixels in 4:2:0 with a padding of 1, which the ratio increases to 2.
 abbrev small : FrameRequest
 small = record { width = 5; height = 3; padding = 1; format = 1 }
 

@@ -1,4 +1,4 @@
--- Statuses worked out by hand. Each line computes: it is proved by `refl`.
+-- Statuses that were calculated by hand. Each one is proved by computation (`refl`).
 use Rattle.std.specs.Prelude.{◌≡◌, true, false, refl}
 use Rattle.v_frame_slices.specs.Layout.{fits}
 use Rattle.v_frame_slices.specs.Measures.{has_window, status_of_windows}
@@ -12,7 +12,7 @@ four_by_two = record { width = 4; height = 2; stride = 6 }
 abbrev two_by_one : Rows
 two_by_one = record { width = 2; height = 1; stride = 2 }
 
--- the last row may end at its width
+-- The last row may end at its width.
 ten_entries : fits four_by_two 10 ≡ true
 ten_entries = refl
 
@@ -32,7 +32,7 @@ unsized = refl
 small_areas : have_areas two_by_one four_by_two ≡ true
 small_areas = refl
 
--- lines of 2 ^ 33 pixels beside lines of 2 ^ 31
+-- Rows of 2 ^ 33 pixels are not resized to rows of 2 ^ 31 pixels.
 long_lines : have_areas (record two_by_one { width = 8589934592 })
     (record four_by_two { width = 2147483648 }) ≡ false
 long_lines = refl
@@ -40,7 +40,7 @@ long_lines = refl
 beyond_the_count : is_counted (record two_by_one { height = 4611686018427387904 }) ≡ false
 beyond_the_count = refl
 
--- no window fits a picture of 4 by 2, and the earlier tests come first
+-- No window fits into a picture of 4 by 2 pixels. The earlier tests come first.
 no_window : status_of_windows 0 (has_window four_by_two) ≡ 8
 no_window = refl
 

@@ -1,4 +1,4 @@
-//! Copies of the parts of pictures that lie inside of others, for any type of pixel.
+//! Copies of pictures to any place of other pictures, for any type of pixel.
 ghost use Rattle.v_frame_slices.specs.Made.{IsCopiedTo};
 
 use crate::layout::Rows;
@@ -7,7 +7,7 @@ use v_frame::pixel::Pixel;
 use v_frame_ops::rows::copy_region_clipped;
 
 /// Copies the picture of the source rows to the rows of the buffer, with its first pixel at column `x` of row `y`. Both may be
-/// negative or past the edge. Pixels outside of the rows are left out.
+/// negative or past the edge. Pixels outside the rows of the buffer are left out.
 pub fn copy_clipped<T: Pixel>(
     rows: &Rows,
     buffer: &mut [T],

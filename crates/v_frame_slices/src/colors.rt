@@ -1,4 +1,4 @@
-//! Colors of three planes of one size.
+//! Conversion of three planes of the same size to colors.
 ghost use Rattle.std.specs.Prelude.{◌≡◌, ◌*◌, ◌<◌, IsTrue, SomeIff, length, nat_eq};
 ghost use Rattle.v_frame.specs.Prelude.{height_of, width_of, KeepsRest, RowsFit};
 ghost use Rattle.v_frame_slices.specs.ColorCalls.{AreColors};
@@ -21,7 +21,7 @@ pub struct ColorChoice {
     pub order: u32,
 }
 
-/// Writes the colors of three pictures of one size to the rows of the buffer.
+/// Converts three pictures of the same size, with luma and both chroma components, to colors in the rows of the buffer.
 pub fn to_rgb(
     rows: &Rows,
     buffer: &mut [u8],
@@ -61,7 +61,7 @@ pub fn to_rgb(
     OK
 }
 
-/// Writes the colors in one of these orders.
+/// Writes the colors in the byte order with this number.
 fn write_colors(
     y: &RowsRef<'_, u8>,
     u: &RowsRef<'_, u8>,
@@ -93,14 +93,14 @@ fn write_colors(
 }
 
 impl ColorChoice {
-    /// Returns whether each number is one of its enum.
+    /// Returns whether all three numbers are valid.
     pub fn is_known(&self) -> bool
         ensures { result ≡ is_choice self.now }
     {
         self.standard < 3 && self.range < 2 && self.order < 4
     }
 
-    /// Returns the coefficients of the conversion to colors, or `None` if a number is not one of its enum.
+    /// Returns the coefficients of the conversion to colors, or `None` if a number is not valid.
     pub fn matrix(&self) -> Option<RgbMatrix>
         ensures { SomeIff result (IsTrue (is_choice self.now)) (matrix_by self.now) }
     {
@@ -133,7 +133,7 @@ impl ColorChoice {
 }
 
 impl Rows {
-    /// Returns whether these rows have the height of others and the bytes of one color for each of their pixels.
+    /// Returns whether these rows have the same height as `other`, and the bytes of one color for each of its pixels.
     pub fn have_colors_of(&self, other: &Rows, order: u32) -> bool
         ensures { result ≡ encoded_size (size_by order) other.now self.now }
     {
@@ -146,14 +146,14 @@ impl Rows {
     }
 }
 
-/// Returns whether a number is three times another one.
+/// Returns whether `number` is three times `part`.
 fn is_thrice(number: usize, part: usize) -> bool
     ensures { result ≡ nat_eq number (3 * part) }
 {
     number % 3 == 0 && number / 3 == part
 }
 
-/// Returns whether a number is four times another one.
+/// Returns whether `number` is four times `part`.
 fn is_four_times(number: usize, part: usize) -> bool
     ensures { result ≡ nat_eq number (4 * part) }
 {

@@ -1,4 +1,4 @@
-//! Pictures composed with others, for any type of pixel.
+//! Combinations of two pictures, for any type of pixel.
 ghost use Rattle.v_frame_slices.specs.Made.{IsBlended, IsBlendedByMask, IsDifference};
 
 use crate::convert::is_depth;
@@ -7,7 +7,7 @@ use crate::status::{FIRST, NUMBER, OK, SECOND, SIZES, THIRD};
 use v_frame::pixel::Pixel;
 use v_frame_ops::rows as pictures;
 
-/// Blends the picture of the source rows over the picture of the buffer. The weight is the part of the source in each pixel, in
+/// Blends the picture of the source rows over the picture of the buffer. `weight` is the share of the source in each pixel, in
 /// 256ths.
 pub fn blend<T: Pixel>(
     rows: &Rows,
@@ -41,8 +41,8 @@ pub fn blend<T: Pixel>(
     OK
 }
 
-/// Blends the picture of the source rows over the picture of the buffer by a mask, whose pixels are the parts of the source, in
-/// 255ths.
+/// Blends the picture of the source rows over the picture of the buffer with a mask. Each pixel of the mask is the share of the
+/// source, in 255ths.
 pub fn blend_with_mask<T: Pixel>(
     rows: &Rows,
     buffer: &mut [T],
@@ -70,8 +70,8 @@ pub fn blend_with_mask<T: Pixel>(
     OK
 }
 
-/// Replaces each pixel of the buffer by its absolute difference from the pixel of the source, times a gain, but at most by the
-/// largest value of the bit depth.
+/// Replaces each pixel of the buffer by its absolute difference from the pixel of the source. The difference is multiplied by a
+/// gain, and limited to the greatest value of the bit depth.
 pub fn difference<T: Pixel>(
     rows: &Rows,
     buffer: &mut [T],

@@ -1,4 +1,4 @@
-//! Pictures in another bit depth or size, for any type of pixel.
+//! Conversions of pictures to another bit depth or size, for any type of pixel.
 ghost use Rattle.std.specs.Prelude.{◌≡◌, ◌&&◌, IsTrue, SomeIff};
 ghost use Rattle.v_frame_slices.specs.Made.{IsAtDepth, IsUpscaled};
 ghost use Rattle.v_frame_slices.specs.Numbers.{is_depth};
@@ -44,7 +44,7 @@ pub fn convert_depth<S: Pixel, T: Pixel>(
     OK
 }
 
-/// Returns two bit depths, or `None` if one of them does not fit its type of pixels.
+/// Returns both bit depths, or `None` if one of them does not fit its type of pixel.
 fn depths<S: Pixel, T: Pixel>(from: u32, to: u32) -> Option<(u8, u8)>
     ensures { SomeIff result (IsTrue (is_depth S.BYTES from && is_depth T.BYTES to)) (from, to) }
 {
@@ -54,7 +54,7 @@ fn depths<S: Pixel, T: Pixel>(from: u32, to: u32) -> Option<(u8, u8)>
     None
 }
 
-/// Returns whether pixels of a type can have values of this bit depth.
+/// Returns whether pixels of the type `T` can have values of this bit depth.
 pub fn is_depth<T: Pixel>(depth: u32) -> bool
     ensures { result ≡ is_depth T.BYTES depth }
 {

@@ -1,4 +1,4 @@
-//! The numbers that formats have for C, in both of its libraries.
+//! The numbers of chroma formats in C, which both C libraries share.
 ghost use Rattle.std.specs.Prelude.{◌≡◌, ◌≢◌, MatchOption};
 ghost use Rattle.v_frame.specs.Prelude.{ChromaSubsampling as TheFormat};
 ghost use Rattle.v_frame_slices.specs.Formats.{format_number, numbered_format};
@@ -18,7 +18,7 @@ pub fn number_of_format(format: ChromaSubsampling) -> u32
     }
 }
 
-/// Returns the format of a number.
+/// Returns the format with a number, or `None` if there is none.
 pub fn format_of_number(number: u32) -> Option<ChromaSubsampling>
     ensures value { result ≡ numbered_format number }
     ensures inverse { MatchOption result ((f : TheFormat) → format_number f ≢ number)

@@ -1,4 +1,4 @@
-//! Where the planes of a frame lie in one buffer, one after the other.
+//! The layout of the planes of a frame in one buffer, one after the other.
 ghost use Rattle.std.specs.Prelude.{◌≡◌, ◌≢◌, ◌+◌, ◌<◌, ◌≤◌, IsTrue, SomeIff};
 ghost use Rattle.v_frame.specs.Prelude.{usize_max};
 ghost use Rattle.v_frame_slices.specs.FrameParts.{all_parts, chroma_in, evenly_bordered, frame_parts, frame_status, luma_in, luma_parts, no_part, size_of};
@@ -26,7 +26,7 @@ pub struct PlanePart {
     pub layout: Bordered,
 }
 
-/// The planes of a frame, and the number of their entries together.
+/// The planes of a frame, and the total number of their entries.
 #[derive(Drop)]
 #[repr(C)]
 pub struct FrameParts {
@@ -81,7 +81,7 @@ fn of_luma(request: &FrameRequest) -> Option<FrameParts>
     })
 }
 
-/// Lays out luma, and chroma with the given ratios.
+/// Lays out luma and chroma. Luma has `columns` columns and `rows` rows for one column and one row of chroma.
 fn of_all(request: &FrameRequest, columns: usize, rows: usize) -> Option<FrameParts>
     requires columns { 0 < columns }
     requires rows { 0 < rows }
@@ -141,7 +141,7 @@ fn chroma_of(request: &FrameRequest, columns: usize, rows: usize) -> Option<(Bor
     )
 }
 
-/// Returns a layout with a padding on the left and the right and a padding above and below, and the number of its entries.
+/// Returns a layout with one padding on the left and the right and one above and below, and the number of its entries.
 fn sized(width: usize, height: usize, across: usize, down: usize) -> Option<(Bordered, usize)>
     ensures { let layout = evenly_bordered width height across down in
         SomeIff result (IsTrue (is_bordered layout usize_max)) (layout, size_of layout) }
@@ -158,7 +158,7 @@ fn sized(width: usize, height: usize, across: usize, down: usize) -> Option<(Bor
     Some((layout, count))
 }
 
-/// Returns a plane of which all numbers are 0.
+/// Returns a plane whose numbers are all 0.
 fn none() -> PlanePart
     ensures { result ≡ no_part }
 {

@@ -1,4 +1,4 @@
-//! Pictures in half the size, rounded up, for any type of pixel.
+//! Pictures at half the size, rounded up, for any type of pixel.
 ghost use Rattle.v_frame_slices.specs.Made.{IsScaled};
 ghost use Rattle.v_frame_convert.specs.declared.scale.Scale.TheVariants.{Half, Same};
 
@@ -7,8 +7,8 @@ use crate::status::{FIRST, OK, SECOND, SIZES};
 use v_frame::pixel::Pixel;
 use v_frame_convert::rows as conversions;
 
-/// Writes the picture of the source rows in half its size, rounded up. Past an edge the last column and the last row are
-/// repeated.
+/// Writes the picture of the source rows at half its size, rounded up. If the width or the height is odd, the last column or row
+/// is repeated.
 pub fn downscale_to_edge<T: Pixel>(
     rows: &Rows,
     buffer: &mut [T],
@@ -30,7 +30,7 @@ pub fn downscale_to_edge<T: Pixel>(
     OK
 }
 
-/// Writes the picture of the source rows with half as many columns, rounded up. Past an edge the last column is repeated.
+/// Writes the picture of the source rows with half as many columns, rounded up. If the width is odd, the last column is repeated.
 pub fn halve_columns<T: Pixel>(
     rows: &Rows,
     buffer: &mut [T],

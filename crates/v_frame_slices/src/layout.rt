@@ -1,4 +1,4 @@
-//! The structs that C and the exports exchange beside slices. Any bytes in them are a valid value.
+//! The structs that C and the exports exchange in addition to slices. All bit patterns are valid values of these structs.
 ghost use Rattle.std.specs.Prelude.{◌≡◌, ◌*◌, ◌<◌, ◌↔◌, nat_eq, IsTrue, IfSome, SomeIff, length};
 ghost use Rattle.v_frame.specs.Prelude.{alloc_size_of, height_of, width_of, RowsFit};
 ghost use Rattle.v_frame_slices.specs.Layout.{fits, geometry_in, is_bordered, number_of, picture};
@@ -10,7 +10,7 @@ use v_frame::plane::{PlaneGeometry, RowsRef, rows_fit};
 use v_frame_convert::subsampled_size;
 use v_frame_turn::Turn;
 
-/// Rows in a buffer: row `y` is the `width` entries from index `stride * y` on. All three numbers are counts of entries.
+/// Rows in a buffer. Row `y` has the `width` entries from index `stride * y` on. All three numbers are counted in entries.
 #[repr(C)]
 pub struct Rows {
     pub width: usize,
@@ -18,7 +18,7 @@ pub struct Rows {
     pub stride: usize,
 }
 
-/// A picture in a border, from the beginning of a buffer on. The stride is `pad_left + width + pad_right`.
+/// A picture with a border, at the beginning of a buffer. The stride is `pad_left + width + pad_right`.
 #[derive(Drop)]
 #[repr(C)]
 pub struct Bordered {
@@ -56,7 +56,7 @@ impl Rows {
         rows_fit(self.width, self.height, self.stride, entries)
     }
 
-    /// Returns the rows of a buffer, or `None` if they do not fit it.
+    /// Returns the rows of a buffer, or `None` if they do not fit into it.
     pub fn of<'a, T>(&self, buffer: &'a [T]) -> Option<RowsRef<'a, T>>
         ensures rows { SomeIff result (IsTrue (fits self.now (length buffer.now)))
             (picture self.now buffer.now) }
@@ -66,21 +66,21 @@ impl Rows {
         RowsRef::new(buffer, self.width, self.height, self.stride)
     }
 
-    /// Returns whether two pictures have one size.
+    /// Returns whether two pictures have the same size.
     pub fn same_size(&self, other: &Rows) -> bool
         ensures { result ≡ same_size self.now other.now }
     {
         self.width == other.width && self.height == other.height
     }
 
-    /// Returns whether another picture has twice as many columns and rows.
+    /// Returns whether `other` has exactly twice as many columns and twice as many rows.
     pub fn is_half_of(&self, other: &Rows) -> bool
         ensures { result ≡ times_size 2 self.now other.now }
     {
         is_twice(other.width, self.width) && is_twice(other.height, self.height)
     }
 
-    /// Returns whether other rows have the same height and twice the width.
+    /// Returns whether `other` has the same height and twice the width.
     pub fn has_half_the_width_of(&self, other: &Rows) -> bool
         ensures { result ≡ encoded_size 2 self.now other.now }
     {
@@ -89,7 +89,7 @@ impl Rows {
 }
 
 impl Rows {
-    /// Returns whether these rows have the size of another picture after it is turned in the given way.
+    /// Returns whether these rows have the size of `other` after it is mirrored or rotated as `turn` specifies.
     pub fn has_turned_size_of(&self, other: &Rows, turn: Turn) -> bool
         ensures value { result ≡ turned_size turn self.now other.now }
         ensures meaning { IsTrue result → SizeFits (exchanges turn) other.now.width other.now.height
@@ -113,7 +113,7 @@ impl Rows {
     }
 }
 
-/// Returns whether a number is twice another one.
+/// Returns whether `number` is twice `half`.
 fn is_twice(number: usize, half: usize) -> bool
     ensures { result ≡ nat_eq number (2 * half) }
 {
@@ -121,7 +121,7 @@ fn is_twice(number: usize, half: usize) -> bool
 }
 
 impl Bordered {
-    /// Returns the geometry and the number of its entries, or `None` if the buffer has fewer.
+    /// Returns the geometry of the picture and the number of its entries, or `None` if the buffer has fewer entries.
     pub fn of(&self, entries: usize) -> Option<(PlaneGeometry, usize)>
         ensures { let geometry = geometry_in self.now in
             SomeIff result (IsTrue (is_bordered self.now entries))
@@ -146,7 +146,7 @@ impl Bordered {
 }
 
 impl Sum {
-    /// Returns the low and the high half of a number.
+    /// Returns the low half and the high half of a number.
     pub fn of(number: u128) -> Sum
         ensures { number_of result ≡ number }
     {

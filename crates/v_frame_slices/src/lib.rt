@@ -1,6 +1,5 @@
-//! The calls of the library for C, for any type of pixel. The crate `v_frame_c` exports them.
-//!
-//! Each call takes slices and the layout of the rows in each. It tests its arguments and returns a status. No call has a
+//! The functions of the C library, for any type of pixel. The crate `v_frame_c` exports them. Each function takes slices and the
+//! layout of the rows in each. It tests its arguments and returns a status of the module `status`. No function has a
 //! precondition.
 #![tactic(auto)]
 

@@ -7,7 +7,7 @@ use crate::status::{FIRST, NUMBER, OK, SECOND, SIZES, WINDOWS};
 use v_frame::pixel::Pixel;
 use v_frame_measures::rows as measures;
 
-/// The greatest difference of two pictures, and the first place that has it.
+/// The greatest difference of two pictures, and the first place where it occurs.
 #[derive(Drop)]
 #[repr(C)]
 pub struct Greatest {
@@ -16,7 +16,7 @@ pub struct Greatest {
     pub difference: u32,
 }
 
-/// Measures the mean squared error of two pictures of one size.
+/// Measures the mean squared error of two pictures of the same size.
 pub fn mean_squared_error<T: Pixel>(
     a_rows: &Rows,
     a: &[T],
@@ -39,7 +39,7 @@ pub fn mean_squared_error<T: Pixel>(
     OK
 }
 
-/// Measures the structural similarity of two pictures of one size whose samples have a bit depth.
+/// Measures the structural similarity of two pictures of the same size, whose samples have the given bit depth.
 pub fn ssim<T: Pixel>(
     a_rows: &Rows,
     a: &[T],
@@ -70,7 +70,7 @@ pub fn ssim<T: Pixel>(
     OK
 }
 
-/// Finds the greatest difference of the values of two pictures of one size, and the first place that has it.
+/// Finds the greatest difference of the values of two pictures of the same size, and the first place where it occurs.
 pub fn greatest_difference<T: Pixel>(
     a_rows: &Rows,
     a: &[T],
@@ -98,7 +98,7 @@ pub fn greatest_difference<T: Pixel>(
     OK
 }
 
-/// Counts the places at which the values of two pictures of one size differ by more than a threshold.
+/// Counts the pixels whose values in two pictures of the same size differ by more than a threshold.
 pub fn count_above<T: Pixel>(
     a_rows: &Rows,
     a: &[T],

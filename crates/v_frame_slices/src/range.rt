@@ -1,4 +1,4 @@
-//! Pictures in the other range of values, for any type of pixel.
+//! Conversions between limited and full range, for any type of pixel.
 ghost use Rattle.std.specs.Prelude.{IsTrue, SomeIff};
 ghost use Rattle.v_frame_slices.specs.Made.{IsInRange};
 ghost use Rattle.v_frame_slices.specs.Numbers.{component_by, is_component};
@@ -9,7 +9,8 @@ use crate::status::{FIRST, NUMBER, OK, SECOND, SIZES};
 use v_frame::pixel::Pixel;
 use v_frame_convert::{Component, rows as conversions};
 
-/// Converts the picture of the source rows to the full range, or from the full range to the limited one.
+/// Converts the picture of the source rows from limited to full range if `full` is true, and from full to limited range
+/// otherwise.
 pub fn to_range<T: Pixel>(
     rows: &Rows,
     buffer: &mut [T],
@@ -47,7 +48,7 @@ pub fn to_range<T: Pixel>(
     OK
 }
 
-/// Returns the component of a number, or `None` if there is no such component.
+/// Returns the component with a number, or `None` if there is none.
 fn component_of(number: u32) -> Option<Component>
     ensures { SomeIff result (IsTrue (is_component number)) (component_by number) }
 {

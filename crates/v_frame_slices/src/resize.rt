@@ -1,4 +1,4 @@
-//! Pictures in any other size, for any type of pixel.
+//! Pictures resized to any size, for any type of pixel.
 ghost use Rattle.std.specs.Prelude.{◌≡◌};
 ghost use Rattle.v_frame_slices.specs.Made.{IsResizedByArea, IsResizedByNearest};
 ghost use Rattle.v_frame_slices.specs.Sizes.{have_areas, is_counted};
@@ -8,7 +8,7 @@ use crate::status::{FIRST, OK, SECOND, SIZES};
 use v_frame::pixel::Pixel;
 use v_frame_resize::rows as sizes;
 
-/// Resizes the picture of the source rows by a box filter: each pixel is the mean of the area that it covers.
+/// Resizes the picture of the source rows with a box filter: each pixel is the mean of the area that it covers.
 pub fn by_area<T: Pixel>(rows: &Rows, buffer: &mut [T], source_rows: &Rows, source: &[T]) -> u32
     ensures made { IsResizedByArea rows.now source_rows.now source.now buffer.old buffer.new result T.form }
 {
@@ -25,8 +25,7 @@ pub fn by_area<T: Pixel>(rows: &Rows, buffer: &mut [T], source_rows: &Rows, sour
     OK
 }
 
-/// Resizes the picture of the source rows by the nearest neighbor: each pixel is the pixel of the source that contains its
-/// center.
+/// Resizes the picture of the source rows by nearest neighbor: each pixel is the pixel of the source that contains its center.
 pub fn by_nearest<T: Pixel>(rows: &Rows, buffer: &mut [T], source_rows: &Rows, source: &[T]) -> u32
     ensures made { IsResizedByNearest rows.now source_rows.now source.now buffer.old buffer.new result }
 {

@@ -1,4 +1,4 @@
-//! Three planes of one size, made of colors.
+//! Conversion of colors to three planes of the same size.
 ghost use Rattle.std.specs.Prelude.{◌≡◌, ◌*◌, ◌<◌, IsTrue, SomeIff, length};
 ghost use Rattle.v_frame.specs.Prelude.{height_of, strided_rows, width_of, KeepsRest, RowsFit};
 ghost use Rattle.v_frame_slices.specs.ColorCalls.{AreSamples};
@@ -11,7 +11,7 @@ use crate::status::{FIRST, FOURTH, NUMBER, OK, SECOND, SIZES, THIRD};
 use v_frame::plane::RowsRef;
 use v_frame_rgb::{Bgr, Bgra, Rgb, Rgba, YuvMatrix, rows as colors};
 
-/// Writes the luma and the chroma of the colors of the first rows to the second, third and fourth rows.
+/// Converts the colors of the first rows to luma in the second rows, and to chroma in the third and fourth rows.
 pub fn of_rgb(
     rows: &Rows,
     buffer: &[u8],
@@ -61,7 +61,7 @@ pub fn of_rgb(
     OK
 }
 
-/// Writes the samples of colors in one of these orders.
+/// Writes the samples of colors in the byte order with this number.
 fn write_samples(
     source: &RowsRef<'_, u8>,
     matrix: YuvMatrix,
@@ -98,7 +98,7 @@ fn write_samples(
 }
 
 impl ColorChoice {
-    /// Returns the coefficients of the conversion to samples, or `None` if a number is not one of its enum.
+    /// Returns the coefficients of the conversion to samples, or `None` if a number is not valid.
     pub fn yuv_matrix(&self) -> Option<YuvMatrix>
         ensures { SomeIff result (IsTrue (is_choice self.now)) (yuv_matrix_by self.now) }
     {

@@ -1,4 +1,4 @@
-//! Two planes of chroma interleaved in one plane, and separated again, for any type of pixel.
+//! Two chroma planes that are interleaved in one plane, and separated again, for any type of pixel.
 ghost use Rattle.v_frame_slices.specs.ChromaByTurns.{AreDeinterleaved, IsInterleaved};
 
 use crate::layout::Rows;
@@ -6,7 +6,7 @@ use crate::status::{FIRST, OK, SECOND, SIZES, THIRD};
 use v_frame::pixel::Pixel;
 use v_frame_semi_planar::rows as semi_planar;
 
-/// Interleaves the pixels of the second and the third rows in the first rows.
+/// Interleaves the pixels of the second and the third rows, and writes them to the first rows.
 pub fn interleave<T: Pixel>(
     rows: &Rows,
     buffer: &mut [T],

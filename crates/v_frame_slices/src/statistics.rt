@@ -1,4 +1,4 @@
-//! Numbers that pictures give, for any type of pixel.
+//! Statistics of pictures, for any type of pixel.
 ghost use Rattle.v_frame_slices.specs.Found.{SumsPairs, SumsPixels};
 
 use crate::layout::{Rows, Sum};
@@ -6,7 +6,7 @@ use crate::status::{FIRST, OK, SECOND, SIZES};
 use v_frame::pixel::Pixel;
 use v_frame_statistics::rows as statistics;
 
-/// The sums of the pixels of a picture and of their squares, and the least and the greatest value.
+/// The number of pixels of a picture, the sums of their values and of the squares, and the least and the greatest value.
 #[derive(Drop)]
 #[repr(C)]
 pub struct Statistics {
@@ -28,7 +28,7 @@ pub struct PairStatistics {
     pub products: Sum,
 }
 
-/// Sums the pixels of a picture and their squares, and finds the least and the greatest value.
+/// Adds up the pixels of a picture and their squares, and finds the least and the greatest value.
 pub fn of_picture<T: Pixel>(rows: &Rows, buffer: &[T], found: &mut Statistics) -> u32
     ensures sums { SumsPixels rows.now buffer.now T.form.value found.old found.new result }
 {
@@ -46,7 +46,7 @@ pub fn of_picture<T: Pixel>(rows: &Rows, buffer: &[T], found: &mut Statistics) -
     OK
 }
 
-/// Sums the pixels of two pictures of one size, their squares and their products.
+/// Adds up the pixels of two pictures of the same size, their squares and their products.
 pub fn of_pair<T: Pixel>(
     a_rows: &Rows,
     a: &[T],

@@ -1,4 +1,4 @@
-//! Frames with interleaved chroma and with samples in the top bits of words, made of three planes and converted back.
+//! Frames with interleaved chroma and with samples in the top bits of words, as in P010: conversion from three planes, and back.
 ghost use Rattle.std.specs.Prelude.{◌≡◌, ◌*◌, ◌<◌, ◌≤◌, length};
 ghost use Rattle.v_frame.specs.Prelude.{height_of, strided_rows, width_of, KeepsRest, RowsFit};
 ghost use Rattle.v_frame_slices.specs.TopBits.{in_top_bits, of_top_bits, AreInTopBits, AreOfTopBits};
@@ -13,8 +13,8 @@ use v_frame::plane::RowsRef;
 use v_frame_convert::rows::map_into;
 use v_frame_semi_planar::rows as semi_planar;
 
-/// Writes the luma and the interleaved chroma of a frame of three planes, whose samples have a bit depth, with the samples in
-/// the top bits of words. The first rows are luma, the second rows chroma.
+/// Writes a frame of three planes as luma and interleaved chroma, with the samples in the top bits of words. The first rows are
+/// luma, and the second rows are chroma. `depth` is the bit depth of the samples.
 pub fn to_top_bits(
     y_rows: &Rows,
     y: &mut [u16],
@@ -62,7 +62,7 @@ pub fn to_top_bits(
     OK
 }
 
-/// Writes the three planes of a frame of luma and interleaved chroma, whose samples are in the top bits of words.
+/// Writes a frame with luma and interleaved chroma, whose samples are in the top bits of words, as three planes.
 pub fn from_top_bits(
     y_rows: &Rows,
     y: &mut [u16],
@@ -177,7 +177,7 @@ fn raise_by_turns(
     semi_planar::to_top_bits(buffer, width, height, stride, depth);
 }
 
-/// Separates interleaved samples in the top bits of words into the rows of two buffers of one size.
+/// Separates interleaved samples in the top bits of words into the rows of two buffers of the same size.
 fn lower_apart(
     source: &RowsRef<'_, u16>,
     size: (usize, usize),

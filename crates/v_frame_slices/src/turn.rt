@@ -1,4 +1,4 @@
-//! Pictures turned, for any type of pixel.
+//! Pictures that are mirrored, transposed or rotated, for any type of pixel.
 ghost use Rattle.std.specs.Prelude.{IsTrue, SomeIff};
 ghost use Rattle.v_frame_slices.specs.Made.{IsTurned};
 ghost use Rattle.v_frame_slices.specs.Numbers.{is_turn, turn_by};
@@ -8,7 +8,7 @@ use crate::status::{FIRST, NUMBER, OK, SECOND, SIZES};
 use v_frame::pixel::Pixel;
 use v_frame_turn::{Turn, rows as turns};
 
-/// Writes the picture of the source rows turned in the way of a number.
+/// Writes the picture of the source rows mirrored, transposed or rotated. The number selects one of these operations.
 pub fn turn<T: Pixel>(
     rows: &Rows,
     buffer: &mut [T],
@@ -34,7 +34,7 @@ pub fn turn<T: Pixel>(
     OK
 }
 
-/// Returns the way to turn of a number.
+/// Returns the operation with a number, or `None` if there is none.
 fn numbered_turn(number: u32) -> Option<Turn>
     ensures { SomeIff result (IsTrue (is_turn number)) (turn_by number) }
 {

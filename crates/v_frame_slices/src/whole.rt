@@ -1,4 +1,4 @@
-//! Frames with interleaved chroma, made of three planes and converted back, for any type of pixel.
+//! Frames with interleaved chroma: conversion from three planes, and back, for any type of pixel.
 ghost use Rattle.std.specs.Prelude.{◌≡◌, IsTrue};
 ghost use Rattle.v_frame_slices.specs.SemiPlanar.{columns_by, have_layout, is_semi_planar, rows_by};
 ghost use Rattle.v_frame_slices.specs.ChromaByTurns.{ArePlanesOf, IsSemiPlanarOf};
@@ -9,8 +9,8 @@ use v_frame::pixel::Pixel;
 use v_frame::plane::copy_rows;
 use v_frame_semi_planar::rows as semi_planar;
 
-/// Writes the luma and the interleaved chroma of a frame of the three planes Y, U and V. The first rows are luma, the second
-/// rows chroma.
+/// Writes a frame of the three planes Y, U and V as luma and interleaved chroma. The first rows are luma, and the second rows are
+/// chroma.
 pub fn to_semi_planar<T: Pixel>(
     y_rows: &Rows,
     y: &mut [T],
@@ -53,7 +53,7 @@ pub fn to_semi_planar<T: Pixel>(
     OK
 }
 
-/// Writes the three planes of a frame of luma and interleaved chroma.
+/// Writes a frame with luma and interleaved chroma as three planes.
 pub fn from_semi_planar<T: Pixel>(
     y_rows: &Rows,
     y: &mut [T],
@@ -97,14 +97,14 @@ pub fn from_semi_planar<T: Pixel>(
     OK
 }
 
-/// Returns whether the format of a number is one with interleaved chroma: 4:2:0, 4:2:2 or 4:4:4.
+/// Returns whether the format with this number can have interleaved chroma: whether it is 4:2:0, 4:2:2 or 4:4:4.
 pub fn is_semi_planar(format: u32) -> bool
     ensures { result ≡ is_semi_planar format }
 {
     1 <= format && format <= 3
 }
 
-/// Returns whether the sizes are those of a frame in the format of a number.
+/// Returns whether the planes have the sizes of a frame in the format with this number.
 pub fn have_layout(y: &Rows, other_y: &Rows, uv: &Rows, u: &Rows, v: &Rows, format: u32) -> bool
     requires known { IsTrue (is_semi_planar format) }
     ensures { result ≡ have_layout format y.now other_y.now uv.now u.now v.now }

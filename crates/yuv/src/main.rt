@@ -1,4 +1,4 @@
-//! The program `yuv`: raw video in streams of frames, told, compared, copied, summed, and shown as pictures.
+//! The program `yuv`: inspects, compares, copies and converts raw video, and saves frames as pictures.
 #![tactic(auto)]
 
 use std::fs::{self, File};
@@ -22,8 +22,8 @@ fn main(rt: HostRuntime) -> ExitCode {
     ExitCode::from(status.code())
 }
 
-/// Opens the null device three times. A new file gets the least number that is free, so after this no file that is opened
-/// gets the number of a standard stream that was closed when the program began.
+/// Opens the null device three times. A new file gets the lowest free descriptor. After this call, no file that the program opens
+/// gets the descriptor of a standard stream that was closed before the program started.
 fn take_standard_numbers(rt: &HostRuntime) -> io::Result<[File; 3]> {
     const NULL: &str = "/dev/null";
     Ok([
@@ -33,7 +33,7 @@ fn take_standard_numbers(rt: &HostRuntime) -> io::Result<[File; 3]> {
     ])
 }
 
-/// Returns whether a link of Linux's to what is open leads to a terminal, by its name.
+/// Returns whether a link of Linux to an open file leads to a terminal, which is known from its name.
 fn is_terminal(rt: &HostRuntime, link: &str) -> bool {
     match fs::read_link(rt, link) {
         Ok(path) => {
@@ -44,7 +44,7 @@ fn is_terminal(rt: &HostRuntime, link: &str) -> bool {
     }
 }
 
-/// Does what the arguments ask for.
+/// Runs the program with its arguments.
 fn run_with_arguments(rt: &HostRuntime) -> io::Result<Status> {
     let _held = take_standard_numbers(rt)?;
     let mut given = env::args(rt)?;

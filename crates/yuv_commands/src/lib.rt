@@ -1,9 +1,8 @@
-//! What the program `yuv` does, over any reader and any writer: each command from the words that it is called with to the
-//! bytes that it writes.
+//! The program `yuv` over any reader and any writer: from its command-line arguments to the bytes that it writes.
 //!
-//! `yuv_words` reads the words, `v_frame_streams` moves and compares frames, `yuv_reports` and `yuv_pictures` say and show what was
-//! found, `yuv_files` has the files. The commands are in `yuv_facts`, `yuv_copies` and `yuv_comparisons`: what each option asks of
-//! the layers below.
+//! `yuv_words` reads the arguments, `v_frame_streams` reads, writes and compares frames, `yuv_reports` and `yuv_pictures` format
+//! the results as text and as pictures, and `yuv_files` creates the files. The commands themselves are in `yuv_facts`,
+//! `yuv_copies` and `yuv_comparisons`, which translate their options for these crates.
 #![tactic(auto)]
 
 mod program;

@@ -1,4 +1,4 @@
-//! The program: it reads the words of a call, runs the command and reports errors.
+//! The program: it reads its arguments, runs the command and reports errors.
 ghost use Rattle.std.specs.Prelude.{◌≡◌, ◌⊎◌};
 ghost use Rattle.yuv_system.specs.declared.status.Status.TheVariants.{Closed, Failed};
 ghost use Rattle.yuv_words.specs.Calls.{AsksHelp, IsWrittenAs};
@@ -22,7 +22,7 @@ pub const VERSION: &str = "yuv 0.4.0\n";
 /// The name of standard output in a message.
 const STANDARD_OUTPUT: &str = "standard output";
 
-/// Why a command does not write video or a PNG picture.
+/// The reason why a command does not write video or a PNG picture to a terminal.
 const TERMINAL: &str = "it is a terminal; redirect it, or name a file";
 
 /// The standard streams of a program.
@@ -36,12 +36,13 @@ pub struct Streams<I, O, E> {
     pub error: E,
     /// Whether standard error is a terminal, so that `--progress` shows a count.
     pub is_terminal: bool,
-    /// Whether standard output is a terminal. Lines of frames would then mix with the count of frames, and video or a PNG picture is
-    /// not written.
+    /// Whether standard output is a terminal. Lines for frames would then mix with the frame count, and video and PNG pictures
+    /// are not written.
     pub output_is_terminal: bool,
 }
 
-/// Runs the command that the words of a call, without the name of the program, ask for.
+/// Runs the command that the arguments `words` request, and returns the exit status. The arguments do not include the name of the
+/// program.
 pub fn run<H, I, O, E>(rt: &H, words: &[&str], streams: Streams<I, O, E>) -> Status
 where
     H: Files + AllocGlobal + Clock,
@@ -58,7 +59,7 @@ where
     }
 }
 
-/// Runs the command that these words ask for, the first of which is its name.
+/// Runs the command that the arguments `words` request. The first one is its name.
 fn run_words<H, I, O, E>(rt: &H, words: &[&str], streams: Streams<I, O, E>) -> Status
 where
     H: Files + AllocGlobal + Clock,
@@ -112,7 +113,7 @@ fn writes_data(command: &Command<'_>) -> bool {
     }
 }
 
-/// Reports what is wrong with the words of a call, and how to get help.
+/// Writes the error in the arguments of the program, and how to get help. Returns the exit status.
 pub fn refuse<E: io::Write>(refusal: &UsageError<'_>, out: &mut E) -> Status
     ensures { result ≡ Failed }
 {
@@ -121,7 +122,8 @@ pub fn refuse<E: io::Write>(refusal: &UsageError<'_>, out: &mut E) -> Status
     Status::Failed
 }
 
-/// Reports what went wrong, and where. If the reader of the output closed it, nothing is reported, as by other programs.
+/// Writes the error that ended a command, with the name of the file. If the reader of the output closed it, nothing is written,
+/// as is usual for command-line programs.
 fn give_up<H: Clock, I, O, E: io::Write>(
     system: &mut System<'_, H, I, O, E>,
     command: &Command<'_>,
@@ -170,7 +172,7 @@ where
     }
 }
 
-/// Prints the help of a topic; of a command, with that of each of its options.
+/// Prints the help of a topic. The help of a command includes all of its options.
 fn print_usage<O: io::Write>(output: &mut O, topic: Topic) -> Result<Status, Fault> {
     write_text(output, usage_text(topic))?;
     if let Topic::Command(command) = topic {
@@ -187,7 +189,7 @@ fn print<O: io::Write>(output: &mut O, text: &str) -> Result<Status, Fault> {
     Ok(Status::Same)
 }
 
-/// Returns the name of a file that a command works on. The name `-` becomes that of the stream.
+/// Returns the name of a file of a command for messages. The name `-` is replaced by the name of the standard stream.
 fn name_of<'a>(command: &Command<'a>, place: Place) -> &'a str {
     let name = file_at(command, place);
     match (name, place) {
@@ -196,7 +198,7 @@ fn name_of<'a>(command: &Command<'a>, place: Place) -> &'a str {
     }
 }
 
-/// Returns the name of the file at a place, or `-` where the command has none there.
+/// Returns the name of the file at a place, or `-` if the command has no file there.
 fn file_at<'a>(command: &Command<'a>, place: Place) -> &'a str {
     let Command::Call(call) = *command else {
         return "-";

@@ -1,4 +1,4 @@
--- What a writer got ends as the text that was written last.
+-- The bytes of a writer end with the text that was written last.
 use Rattle.std.proofs.Common.{◌≡◌, ◌∙◌, ◌++◌, ◌∷◌, [], ℕ, Bool, true, false, List, Ok, Err, Option, Result, Some, None, ap, append_assoc, refl, subst, sym}
 use Rattle.std.specs.Prelude.{option_map, IfSome, IsSome, IsSomeAnd, OnOk}
 use Rattle.std.specs.Io.KnownBytes.{Appends}
@@ -34,7 +34,7 @@ still_known None has' text appended known =
 still_known (Some xs) None text appended known = absurd appended
 still_known (Some xs) (Some ys) text appended known = refl
 
--- what each pair that is taken keeps is kept by all
+-- A property that each pair of frames preserves is preserved by all pairs.
 pub kept_by_all : {T A : Type 0} (form : PixelForm T) (takes : A → A → Tables T → Tables T → PlaneSums → Type 0)
     (P : A → Type 0) → ((old new : A) (a b : Tables T) (errors : PlaneSums) → takes old new a b errors → P old → P new)
     → (pairs : List (Pair T)) (old new : A) → TakesEach form takes pairs old new → P old → P new
@@ -57,7 +57,7 @@ frame_known form number sums (Some xs) (Some ys) text appended (front, (values, 
   ),
 )
 
--- what is said of all frames is what was found
+-- The report on all frames states the result of the comparison.
 pub ends_as_found : (form : ReportForm) (exact : Bool) (before : ℕ) (found : Comparison) (said : Said)
     → said.measures.sums ≡ sums_asked exact found.errors
     → said.difference ≡ option_map (difference_said before) found.difference
@@ -70,8 +70,8 @@ ends_as_found form exact before found said sums difference longer =
     (option_map (difference_said before) found.difference) l) longer
 
 module _ {W : Type 0} (contents : W → Option (List ℕ)) where
-  -- a report has this form and these scales, so many frames stand before those that are reported, and
-  -- what its writer got is known
+  -- The report has this form, these parameters and this number of skipped frames, and the bytes of
+  -- its writer are known.
   pub record IsAsked (form : ReportForm) (scale : Scale) (before : ℕ) (report : FrameReport W) : Type 0 where
     pub form_asked : report.report.form ≡ form
     pub scale_asked : report.scale ≡ scale
@@ -91,13 +91,13 @@ module _ {W : Type 0} (contents : W → Option (List ℕ)) where
         known = took.stays.known asked.known;
       }) pairs old new each asked
 
-  -- what holds of a value that is known to be there
+  -- A property of a value that is known to exist.
   pub if_there : (X : Type 0) (there : Option (List ℕ)) → IfSome there (λ _. X) → IsSome there → X
   if_there X None holds known =
       let no : false ≡ true = known in absurd (cc)
   if_there X (Some xs) holds known = holds
 
-  -- what was written ends as a report of this form does
+  -- The bytes that were written end as a report of this form does.
   pub Ends : W → ReportForm → Bool → ℕ → Comparison → Type 0
   Ends new form exact before found = IsSomeAnd (contents new) (EndsWith (report_end form exact before found))
 

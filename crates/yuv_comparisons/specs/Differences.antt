@@ -1,4 +1,4 @@
--- What `diff` makes of two frames.
+-- The picture and the numbers that `diff` calculates from two frames.
 use Rattle.std.specs.Prelude.{ℕ, ◌≡◌, ◌+◌, ◌*◌, ◌≤◌, List, Option, unwrap_or}
 use Rattle.std.specs.Int.NonZero.{non_zero_u8_get}
 use Rattle.v_frame.specs.Prelude.{Frame, PixelForm, Tables, tables_of}
@@ -10,8 +10,8 @@ use Rattle.v_frame_streams.specs.Comparisons.{Pair}
 use Rattle.v_frame_streams.specs.Prelude.{ReadsBehind, Stream}
 use Rattle.yuv_words.specs.declared.command.Options.{Options as OptionWords}
 
--- a writer got the picture of the difference of frames that show these tables, times a gain, and
--- this is what differs
+-- The writer got the picture of the difference of two frames with these tables, multiplied by a
+-- gain, and `found` has the differences in numbers.
 pub record DrawsDifference {T W : Type 0} (form : PixelForm T) (contents : W → Option (List ℕ))
     (start : Option (List ℕ)) (gain : ℕ) (a b : Tables T) (new : W) (found : Found) : Type 0 where
   pub first : Frame T
@@ -24,7 +24,7 @@ pub record DrawsDifference {T W : Type 0} (form : PixelForm T) (contents : W →
       (difference_rows form first second gain)
   pub differs : AreDifferences form a b found
 
--- The frames of both streams that the options name were read, and their difference was written.
+-- The requested frames of both streams were read, and their difference was written.
 pub record DrawsFrames {T W : Type 0} (form : PixelForm T) (contents : W → Option (List ℕ))
     (start : Option (List ℕ)) (options : OptionWords) (one other : Stream)
     (left left' right right' : Option (List ℕ)) (new : W) (found : Found) : Type 0 where

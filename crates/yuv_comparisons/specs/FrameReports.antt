@@ -1,4 +1,4 @@
--- What is reported of two frames.
+-- The report on two frames.
 use Rattle.std.specs.Prelude.{ℕ, ◌≡◌, ◌+◌, List, Option, IfSome, IsSome, IsSomeAnd, IsTrue, is_some, min}
 use Rattle.yuv_comparisons.specs.Reports.{frame_number, sums_asked}
 use Rattle.yuv_comparisons.specs.declared.frame_report.FrameReport.{FrameReport}
@@ -7,7 +7,8 @@ use Rattle.v_frame_streams.specs.Prelude.{most_frames}
 use Rattle.v_frame_formats.specs.declared.sums.PlaneSums.{PlaneSums}
 
 module _ {W : Type 0} (contents : W → Option (List ℕ)) (old new : FrameReport W) where
-  -- what a report was asked for stays, and what is known of its writer stays known
+  -- The options of the report are unchanged, and if the bytes of its writer were known, they still
+  -- are.
   pub record StaysAsked : Type 0 where
     pub form : new.report.form ≡ old.report.form
     pub lists_frames : new.report.lists_frames ≡ old.report.lists_frames
@@ -16,8 +17,8 @@ module _ {W : Type 0} (contents : W → Option (List ℕ)) (old new : FrameRepor
     pub before : new.before ≡ old.before
     pub known : IsSome (contents old.out) → IsSome (contents new.out)
 
-  -- two frames of these errors were counted, and reported under the number that the one of the
-  -- first stream has there, where frames are listed
+  -- Two frames with these errors were counted. If frames are listed, they were reported under the
+  -- number of the frame in the first stream.
   pub record ReportsFrame (errors : PlaneSums) : Type 0 where
     pub stays : StaysAsked
     pub counted : new.frames ≡ min (old.frames + 1) most_frames

@@ -1,4 +1,4 @@
--- What `compare` finds in the two files that it reads.
+-- The result of `compare` for the two files that it reads.
 use Rattle.std.specs.Prelude.{ℕ, ◌≡◌, ◌≢◌, ◌<◌, ◌↔◌, codes, IsNone, List, Option, None}
 use Rattle.std.specs.Borrow.{MutBor}
 use Rattle.v_frame.specs.Prelude.{one_byte, two_bytes}
@@ -13,9 +13,9 @@ use Rattle.yuv_system.specs.declared.status.Status.{Status}
 use Rattle.yuv_system.specs.declared.status.Status.TheVariants.{Failed, Same}
 use Rattle.yuv_words.specs.declared.command.Call.{Call}
 
--- Both files of the call were opened, each as its option `--raw` or `--raw-second` says, with
--- `left` and `other_left` behind their headers. The streams were compared as the options say, and
--- the status says what was found.
+-- Both files were opened, each in the format that its option `--raw` or `--raw-second` gives, with
+-- the bytes `left` and `other_left` after their headers. The streams were compared as the options
+-- specify, and the exit status states the result.
 pub record ComparesInputs {F I : Type 0} (files : F → Option (List ℕ))
     (standard : I → Option (List ℕ)) (call : Call) (input : Option I) (status : Status)
     : Type 0 where

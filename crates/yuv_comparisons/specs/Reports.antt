@@ -1,4 +1,4 @@
--- What `compare` reports, where whole numbers are printed.
+-- The parts of a report of `compare` that contain whole numbers.
 use Rattle.std.specs.Prelude.{ℕ, ◌+◌, min, if◌then◌else◌, Bool, List, Option, Some, None, option_map, IfSome}
 use Rattle.std.specs.Prelude.{IsSomeAnd}
 use Rattle.v_frame.specs.Prelude.{PixelForm, Tables}
@@ -15,21 +15,20 @@ use Rattle.v_frame_streams.specs.declared.stream.Place.{Place}
 use Rattle.v_frame_streams.specs.declared.stream.Place.TheVariants.{First}
 use Rattle.v_frame_formats.specs.declared.sums.PlaneSums.{PlaneSums}
 
--- the sums of squared errors, with `--exact` alone
+-- The sums of squared errors if `--exact` is given.
 abbrev pub sums_asked : Bool → PlaneSums → Option PlaneSums
 sums_asked exact sums = if exact then Some sums else None
 
--- the structural similarities of two frames of a bit depth
+-- The structural similarities of two frames with this bit depth.
 abbrev pub similarities_of : {T : Type 0} → PixelForm T → ℕ → Tables T → Tables T → FrameMeasure
 similarities_of form depth a b = measured (ssim_of form (peak_of depth)) a b
 
--- the number that a frame has in its file: so many stand before those that are compared, of which
--- it is the one of this number, counted from 1
+-- The number that a frame has in its file. `before` frames are skipped, and `number` counts the
+-- compared frames from 1.
 abbrev pub frame_number : ℕ → ℕ → ℕ
 frame_number before number = min (before + number) most_frames
 
--- the first difference, in a frame of the file, of which so many stand before the first that is
--- compared
+-- The first difference with the number that its frame has in the file. `before` frames are skipped.
 abbrev pub difference_said : ℕ → ℕ × PixelDifference → ℕ × PixelDifference
 difference_said before found = (frame_number before (found.0 + 1), found.1)
 
@@ -37,13 +36,14 @@ abbrev pub longer_said : Place → Longer
 longer_said First = Longer.First
 longer_said _ = Longer.Second
 
--- the end of a report, after so many frames: in lines the sums where they are asked for, the first
--- difference and the longer stream; in an object the last two, and in a table nothing
+-- The end of a report. `before` frames precede the first one that was compared. In lines it has the
+-- sums if they are requested, the first difference and the longer stream. In JSON it has the last
+-- two, and in CSV it is empty.
 abbrev pub report_end : ReportForm → Bool → ℕ → Comparison → List ℕ
 report_end form exact before found =
     end_by_parts form (sums_asked exact found.errors)
     (option_map (difference_said before) found.difference) (option_map longer_said found.longer)
 
--- what a writer got ends so, where that is known
+-- If the bytes of the writer were known, they now end with `end`.
 abbrev pub EndsKnown : Option (List ℕ) → Option (List ℕ) → List ℕ → Type 0
 EndsKnown has has' end = IfSome has (λ _. IsSomeAnd has' (EndsWith end))

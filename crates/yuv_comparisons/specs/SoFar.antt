@@ -3,7 +3,7 @@ use Rattle.std.specs.Prelude.{Option, Some, None}
 use Rattle.v_frame_formats.specs.Sums.{added}
 use Rattle.v_frame_formats.specs.declared.sums.PlaneSums.{PlaneSums}
 
--- the sums after one more frame
+-- The sums after one more frame.
 abbrev pub sums_so_far : Option PlaneSums → PlaneSums → PlaneSums
 sums_so_far None errors = errors
 sums_so_far (Some sums) errors = added sums errors

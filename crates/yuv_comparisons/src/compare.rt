@@ -1,4 +1,4 @@
-//! The command `compare`: how far two streams are apart.
+//! The command `compare`: measures how much two streams differ.
 ghost use Rattle.std.specs.Prelude.{◌≡◌, ◌≢◌, ◌<◌, ◌↔◌, ◌⊎◌, is_some, unwrap_or, IfOk, IsNone, IsTrue, OnOk};
 ghost use Rattle.v_frame.specs.Prelude.{one_byte, two_bytes};
 ghost use Rattle.v_frame_y4m.specs.Color.{depth_of};
@@ -31,11 +31,12 @@ use yuv_system::{
 };
 use yuv_words::{Call, Options};
 
-/// Reports how far two streams are apart.
+/// Measures how much two streams differ, and writes a report.
 ///
 /// # Errors
 ///
-/// Where a stream can't be read, the streams can't be compared, no frame is, or the report can't be written.
+/// A [`Fault`] if a stream can't be read, if the streams can't be compared, if no frames were compared, or if the report can't be
+/// written.
 pub fn do_compare<H, F, I, O, E>(
     system: &mut System<'_, H, I, O, E>,
     call: &Call<'_>,
@@ -73,7 +74,8 @@ where
     Ok(comparison_status(&found))
 }
 
-/// Warns if the headers of two streams disagree on what a comparison of samples does not show. Headerless video has no header.
+/// Writes a warning for each property in which the headers of two streams differ and that a comparison of samples does not show.
+/// Headerless video has no header.
 pub(crate) fn warn_of_headers<E: io::Write>(
     messages: &mut E,
     options: &Options,
@@ -85,7 +87,7 @@ pub(crate) fn warn_of_headers<E: io::Write>(
     }
 }
 
-/// Reports how far two streams are apart, and returns the writer and what was found.
+/// Compares two streams and writes a report. Returns the writer and the result of the comparison.
 fn report_comparison<R: io::Read, S: io::Read, W: io::Write + Drop, H: Clock, E: io::Write>(
     alloc: Global,
     first: &mut Source<R>,
@@ -133,7 +135,7 @@ fn report_comparison<R: io::Read, S: io::Read, W: io::Write + Drop, H: Clock, E:
     Ok((observer.into_out(), found))
 }
 
-/// Names the first frame of each stream that has samples above its bit depth.
+/// Writes a warning with the first frame of each stream that has samples above the greatest value of its bit depth.
 fn warn_of_samples<R: io::Read, S: io::Read, E: io::Write>(
     messages: &mut E,
     names: (&str, &str),
@@ -145,8 +147,8 @@ fn warn_of_samples<R: io::Read, S: io::Read, E: io::Write>(
     write_above(messages, names.1, second, above.second);
 }
 
-/// Writes what was found before a stream breaks off, where one does. Returns the fault of the comparison, or that of the report if it
-/// cannot be written.
+/// If the error is that a stream breaks off, writes the report on the frames before. Returns the error of the comparison, or the
+/// error of the report if it cannot be written.
 fn report_broken<W: io::Write, H: Clock, E: io::Write>(
     error: StreamError,
     observer: &mut FrameReport<W>,
@@ -162,14 +164,14 @@ fn report_broken<W: io::Write, H: Clock, E: io::Write>(
     }
 }
 
-/// Returns how many frames of the first stream stand before the first one that is compared.
+/// Returns the number of frames of the first stream that are skipped.
 fn first_taken(options: &Options) -> u64
     ensures { result ≡ unwrap_or options.now.skip 0 }
 {
     options.skip.unwrap_or(0)
 }
 
-/// Returns what the measures of a report are made of besides the errors.
+/// Returns the parameters of the measures for streams with this header.
 fn scale_of(header: &StreamHeader, options: &Options) -> Scale
     ensures pixels { result.pixels ≡ pixels_of_sizes (sizes_in header.now) }
     ensures bit_depth { result.bit_depth ≡ depth_of header.now.color }
@@ -182,18 +184,18 @@ fn scale_of(header: &StreamHeader, options: &Options) -> Scale
     }
 }
 
-/// Returns means of structural similarities, where these are asked for.
+/// Returns empty means of structural similarity if `--ssim` is given, and `None` otherwise.
 fn means_of(options: &Options) -> Option<Means>
     ensures { is_some result ≡ options.now.ssim }
 {
     options.ssim.then_some(Means::new())
 }
 
-/// Compares two streams as the options say.
+/// Compares two streams as the options specify.
 ///
 /// # Errors
 ///
-/// Those of [`compare_streams`].
+/// The errors of [`compare_streams`].
 pub fn compare_sources<
     R: io::Read,
     S: io::Read,
@@ -235,7 +237,7 @@ pub fn compare_sources<
     compare_streams(alloc, first, second, &taken, observer, progress)
 }
 
-/// Returns how a comparison ends.
+/// Returns the exit status for the result of a comparison.
 fn comparison_status(found: &Comparison) -> Status
     ensures same { (result ≡ Status.Same)
         ↔ (IsNone found.now.difference × IsNone found.now.longer) }
@@ -248,14 +250,14 @@ fn comparison_status(found: &Comparison) -> Status
     }
 }
 
-/// Returns whether each frame is reported: always in a table or an object, and in lines with `--frames`.
+/// Returns whether each frame is reported: always in CSV and JSON, and in lines if `--frames` is given.
 fn lists_frames(options: &Options) -> bool
     ensures { IsTrue result ↔ (IsTrue options.now.frames ⊎ (options.now.form ≢ ReportForm.Lines)) }
 {
     options.frames || options.form != ReportForm::Lines
 }
 
-/// Returns how many samples each plane of a frame has.
+/// Returns the number of samples in each plane of a frame.
 pub(crate) fn samples_of(header: &StreamHeader) -> PlaneSums
     ensures { result ≡ pixels_of_sizes (sizes_in header.now) }
 {
@@ -274,7 +276,11 @@ pub(crate) fn samples_of(header: &StreamHeader) -> PlaneSums
     }
 }
 
-/// Tests whether each plane of a frame has a window of structural similarity, which is 8 samples wide and high.
+/// Tests whether each plane of a frame is large enough for a window of structural similarity, which has 8x8 samples.
+///
+/// # Errors
+///
+/// [`Fault::NoWindow`] if a plane is smaller.
 pub(crate) fn test_windows(header: &StreamHeader) -> Result<(), Fault> {
     let (columns, rows) = subsample_ratio_or_one(header.color.subsampling());
     if header.width.div_ceil(columns) < 8 || header.height.div_ceil(rows) < 8 {

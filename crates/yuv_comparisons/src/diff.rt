@@ -1,4 +1,4 @@
-//! The command `diff`: the difference of two frames as a picture, and where it is.
+//! The command `diff`: saves the difference of two frames as a picture, and prints where they differ.
 ghost use Rattle.std.specs.Prelude.{◌≡◌, ◌≢◌, ◌↔◌, ◌+◌, ◌++◌, false, string_bytes, unwrap_or, IfOk, IfSome, OnOk};
 ghost use Rattle.v_frame.specs.Prelude.{one_byte, tables_of, two_bytes};
 ghost use Rattle.v_frame_y4m.specs.Color.{depth_of};
@@ -27,14 +27,15 @@ use yuv_system::{
 };
 use yuv_words::{Call, Options};
 
-/// What each difference is multiplied by, where nobody says.
+/// The default factor by which differences are multiplied.
 const GAIN: u16 = 8;
 
-/// Writes the difference of two frames as a picture, and reports where it is.
+/// Saves the difference of two frames as a picture, and prints where they differ.
 ///
 /// # Errors
 ///
-/// Where a stream can't be read, has no such frame or one that can't be compared, or the picture or the report can't be written.
+/// A [`Fault`] if a stream can't be read, if it does not have the requested frame, if the frames can't be compared, or if the
+/// picture or the report can't be written.
 pub fn do_diff<H, I, O, E>(
     system: &mut System<'_, H, I, O, E>,
     call: &Call<'_>,
@@ -90,7 +91,7 @@ where
         let Ok(text) = text else {
             return Err(Fault::Report(no_memory()));
         };
-        // Where nothing can be said there, the picture is written all the same, and the status says what was found.
+        // If nothing can be written to standard error, the picture is still written, and the exit status states the result.
         let _ = write_text(system.progress.out(), text.as_str());
     } else if let Err(error) = write_made(&mut system.output, text) {
         return Err(Fault::Report(error));
@@ -98,7 +99,7 @@ where
     Ok(status_of(&found))
 }
 
-/// Writes the difference of the two frames that the options name, and returns the writer and what differs.
+/// Writes the difference of the two requested frames, and returns the writer and the differences.
 fn write_difference<R: io::Read, S: io::Read, W: io::Write + Drop>(
     alloc: Global,
     first: &mut Source<R>,
@@ -127,7 +128,7 @@ fn write_difference<R: io::Read, S: io::Read, W: io::Write + Drop>(
     }
 }
 
-/// Writes the difference of the frames behind so many, whose pixels are of this type.
+/// Skips `before` frames of each stream, and writes the difference of the next two frames, whose samples have the type `T`.
 fn draw_frames<T: Pixel, R: io::Read, S: io::Read, W: io::Write + Drop>(
     alloc: Global,
     first: &mut Source<R>,
@@ -155,14 +156,14 @@ fn draw_frames<T: Pixel, R: io::Read, S: io::Read, W: io::Write + Drop>(
     Ok(drawn)
 }
 
-/// Returns what each difference is multiplied by.
+/// Returns the factor by which differences are multiplied.
 fn gain_of(options: &Options) -> u16
     ensures { result ≡ unwrap_or options.now.gain 8 }
 {
     options.gain.unwrap_or(GAIN)
 }
 
-/// Writes the difference of two frames of one size, and returns the writer and what differs.
+/// Writes the difference of two frames of the same size, and returns the writer and the differences.
 fn draw_difference<T: Pixel, W: io::Write + Drop>(
     alloc: Global,
     out: W,
@@ -189,7 +190,7 @@ fn found_text(alloc: Global, found: &Found) -> Result<String, AllocError>
     Ok(text)
 }
 
-/// Appends the line of a chroma plane, where it is there.
+/// Appends the line of a chroma plane, if the frames have it.
 fn push_chroma(
     text: &mut String,
     name: &str,
@@ -216,7 +217,7 @@ fn push_plane(text: &mut String, name: &str, found: &PlaneDifference) -> Result<
     push_greatest(text, &found.greatest)
 }
 
-/// Appends how many samples of a plane differ, and which is the first.
+/// Appends the number of samples of a plane that differ, and the place of the first one.
 fn push_first(
     text: &mut String,
     name: &str,
@@ -233,7 +234,7 @@ fn push_first(
     )
 }
 
-/// Appends the greatest difference, and the first place that has it.
+/// Appends the greatest difference, and the first place where it occurs.
 fn push_greatest(text: &mut String, greatest: &GreatestDifference) -> Result<(), AllocError>
     ensures { OnOk result (string_bytes text.new
         ≡ string_bytes text.old ++ greatest_said greatest.now) }
@@ -245,7 +246,7 @@ fn push_greatest(text: &mut String, greatest: &GreatestDifference) -> Result<(),
     )
 }
 
-/// Returns whether a chroma plane is there and differs.
+/// Returns whether the frames have a chroma plane and differ in it.
 fn chroma_differs(found: &Option<PlaneDifference>) -> bool
     ensures { (result ≡ false) ↔ IfSome found.now (λ plane. plane.count ≡ 0) }
 {
@@ -255,7 +256,7 @@ fn chroma_differs(found: &Option<PlaneDifference>) -> bool
     }
 }
 
-/// Returns how the command ends: as `compare` does.
+/// Returns the exit status, which has the same meaning as that of `compare`.
 fn status_of(found: &Found) -> Status
     ensures same { (result ≡ Status.Same) ↔ ShowNoDifference found.now }
     ensures never { result ≢ Status.Failed }

@@ -1,4 +1,4 @@
-//! What is reported of each two frames, while streams are compared.
+//! Writes the report on each pair of frames while streams are compared.
 ghost use Rattle.std.specs.Prelude.{◌≡◌, None, option_map, string_bytes, IfSome, IsNone, IsSome, IsTrue, OnOk, is_some};
 ghost use Rattle.std.specs.Int.NonZero.{non_zero_u8_get};
 ghost use Rattle.std.specs.Io.KnownBytes.{Appends};
@@ -20,7 +20,7 @@ use v_frame_streams::{Comparison, FrameObserver, Place, PlaneSums, StreamError};
 use yuv_reports::{FrameMeasures, Longer, Report};
 use yuv_system::{ShownProblem, no_memory, write_text};
 
-/// Reports each two frames that are compared, and all of them at the end.
+/// The report on each pair of frames that is compared, and on all pairs at the end.
 #[derive(Drop)]
 pub(crate) struct FrameReport<W> {
     out: W,
@@ -29,9 +29,9 @@ pub(crate) struct FrameReport<W> {
     scale: Scale,
     ssim: Option<Means>,
     alloc: Global,
-    /// How many frames of the first stream stand before the first one that is compared.
+    /// The number of frames of the first stream that precede the first one that is compared.
     before: u64,
-    /// How many frames of the second stream precede the first one that is compared.
+    /// The number of frames of the second stream that precede the first one that is compared.
     before_second: u64,
     frames: u64,
     is_begun: bool,
@@ -40,8 +40,8 @@ pub(crate) struct FrameReport<W> {
 }
 
 impl<W: io::Write> FrameReport<W> {
-    /// Returns a report of no frame. Structural similarities are measured where there are means for them. A frame has the number
-    /// that it has in the first stream, of which so many frames stand before it.
+    /// Returns a report without frames. It includes structural similarity if `ssim` has means for it. Frames are numbered as in
+    /// the first stream, of which `before` frames are skipped.
     pub(crate) fn new(
         alloc: Global,
         out: W,
@@ -75,21 +75,21 @@ impl<W: io::Write> FrameReport<W> {
         }
     }
 
-    /// Returns the first frame of each stream that has samples above its bit depth.
+    /// Returns the first frame of each stream that has samples above the greatest value of its bit depth.
     pub(crate) fn above(&self) -> Above
         ensures { result ≡ self.now.above }
     {
         self.above
     }
 
-    /// Returns the writer back.
+    /// Returns the writer.
     pub(crate) fn into_out(self) -> W
         ensures { result ≡ self.out }
     {
         self.out
     }
 
-    /// Appends what stands before the first frame, once.
+    /// Appends the beginning of the report, unless it was appended before.
     fn begin(&mut self) -> Result<(), AllocError>
         ensures out { self.new.out ≡ self.old.out }
         ensures report { self.new.report ≡ self.old.report }
@@ -108,7 +108,11 @@ impl<W: io::Write> FrameReport<W> {
         self.report.begin(&mut self.text, &measures)
     }
 
-    /// Writes what is said of all frames.
+    /// Writes the report on all frames.
+    ///
+    /// # Errors
+    ///
+    /// The error of the writer, and `Problem::OutOfMemory` if there is not enough memory.
     #[tactic(auto, using(crate::proofs::Reporting::ends_known))]
     pub(crate) fn end(&mut self, found: &Comparison) -> Result<(), StreamError>
         ensures { OnOk result (EndsKnown (W.contents self.old.out)
@@ -121,7 +125,7 @@ impl<W: io::Write> FrameReport<W> {
         }
     }
 
-    /// Appends what is said of all frames.
+    /// Appends the report on all frames.
     fn push_end(&mut self, found: &Comparison) -> Result<(), AllocError>
         ensures ended { OnOk result (EndsWith
             (report_end self.old.report.form self.old.scale.exact self.old.before found.now)
@@ -138,11 +142,11 @@ impl<W: io::Write> FrameReport<W> {
         self.report.end(&mut self.text, &found)
     }
 
-    /// Writes what was found before the frame at which a stream breaks off.
+    /// Writes the report on the frames before the one at which a stream breaks off.
     ///
     /// # Errors
     ///
-    /// The writer's, and that of refused memory.
+    /// The error of the writer, and `Problem::OutOfMemory` if there is not enough memory.
     pub(crate) fn end_broken(&mut self, error: &StreamError) -> Result<(), StreamError> {
         let shown = ShownProblem { error };
         let said = format!(in self.alloc; "{shown}");
@@ -157,7 +161,7 @@ impl<W: io::Write> FrameReport<W> {
         }
     }
 
-    /// Appends what was found before the frame at which a stream breaks off.
+    /// Appends the report on the frames before the one at which a stream breaks off.
     fn push_broken_end(&mut self, error: &str) -> Result<(), AllocError> {
         self.begin()?;
         let ssim = match &self.ssim {
@@ -172,7 +176,7 @@ impl<W: io::Write> FrameReport<W> {
         self.report.end_broken(&mut self.text, &found, error)
     }
 
-    /// Appends the next frame.
+    /// Appends the report on the next frame.
     fn push_frame(&mut self, measures: &FrameMeasures) -> Result<(), AllocError>
         ensures said { OnOk result (IsTrue self.old.report.lists_frames
             → EndsWithFrame self.old.report.form (frame_number self.old.before self.old.frames)
@@ -191,7 +195,7 @@ impl<W: io::Write> FrameReport<W> {
             .frame(self.alloc, &mut self.text, number, measures)
     }
 
-    /// Writes the text, and begins a new one.
+    /// Writes the text that was appended, and clears it.
     #[tactic(auto, using(crate::proofs::Reporting::nothing_appended))]
     fn write(&mut self) -> Result<(), StreamError>
         ensures written { OnOk result (Appends (W.contents self.old.out)
@@ -210,7 +214,7 @@ impl<W: io::Write> FrameReport<W> {
         written
     }
 
-    /// Returns the structural similarities of two frames, where they are measured.
+    /// Returns the structural similarity of two frames if the report includes it, and `None` otherwise.
     fn similarities<T: Pixel>(
         &mut self,
         first: &Frame<T>,
@@ -265,7 +269,7 @@ impl<T: Pixel, W: io::Write> FrameObserver<T> for FrameReport<W> {
     }
 }
 
-/// Returns a similarity of no frames, with the planes that there are.
+/// Returns a measure of 0 for no frames, with a value for each plane in `planes`.
 fn blank(planes: &PlaneSums) -> FrameMeasure {
     FrameMeasure {
         all: 0.0,
@@ -275,7 +279,7 @@ fn blank(planes: &PlaneSums) -> FrameMeasure {
     }
 }
 
-/// Returns what was found as a report has it, after so many frames.
+/// Returns the result of a comparison in the form of a report. `start` frames precede the first one that was compared.
 fn reported_comparison(
     found: &Comparison,
     measures: FrameMeasures,

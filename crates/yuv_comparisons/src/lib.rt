@@ -1,5 +1,5 @@
-//! The commands of `yuv` that compare two streams: `compare` in numbers, `plot` in a chart, and `diff` two of their frames in a
-//! picture.
+//! The commands of `yuv` that compare two streams: `compare` prints measures, `plot` draws a chart, and `diff` saves the
+//! difference of two frames as a picture.
 #![tactic(auto)]
 
 mod compare;

@@ -1,4 +1,4 @@
-//! The measures of a report, from the sums of squared errors and the structural similarities of frames.
+//! The measures of a report, calculated from sums of squared errors and from structural similarities.
 ghost use Rattle.std.specs.Prelude.{◌≡◌};
 ghost use Rattle.yuv_comparisons.specs.Reports.{sums_asked};
 
@@ -7,19 +7,19 @@ use v_frame_measures::{FrameMeasure, Mean, psnr};
 use v_frame_streams::PlaneSums;
 use yuv_reports::FrameMeasures;
 
-/// What measures are made of besides the errors.
+/// The parameters that are needed to calculate measures from errors.
 #[derive(Clone, Copy)]
 pub(crate) struct Scale {
-    /// How many samples each plane of a frame has.
+    /// The number of samples in each plane of a frame.
     pub(crate) pixels: PlaneSums,
-    /// The bits of a sample.
+    /// The bit depth of the samples.
     pub(crate) bit_depth: u8,
-    /// Whether the sums of squared errors are reported too.
+    /// Whether sums of squared errors are reported.
     pub(crate) exact: bool,
 }
 
 impl Scale {
-    /// Returns the measures of so many frames with these errors.
+    /// Returns the measures of `frames` frames with these sums of squared errors.
     pub(crate) fn measures(
         &self,
         errors: &PlaneSums,
@@ -39,7 +39,8 @@ impl Scale {
     }
 }
 
-/// Returns the mean squared errors of so many samples: of all together, and of those of each plane that there is.
+/// Returns the mean squared errors of all samples together, and of each plane that the frames have. `pixels` has the number of
+/// samples.
 fn mean_errors(errors: &PlaneSums, pixels: &PlaneSums) -> FrameMeasure {
     FrameMeasure {
         all: mean_squared_error(errors.total(), pixels.total()),
@@ -49,7 +50,7 @@ fn mean_errors(errors: &PlaneSums, pixels: &PlaneSums) -> FrameMeasure {
     }
 }
 
-/// Returns the mean squared error of a chroma plane, where there is one.
+/// Returns the mean squared error of a chroma plane, or `None` if the frames do not have it.
 fn chroma_error(errors: Option<u128>, pixels: Option<u128>) -> Option<f64> {
     match (errors, pixels) {
         (Some(errors), Some(pixels)) => Some(mean_squared_error(errors, pixels)),
@@ -57,9 +58,9 @@ fn chroma_error(errors: Option<u128>, pixels: Option<u128>) -> Option<f64> {
     }
 }
 
-/// Returns the mean of squared errors: their sum over the number of the samples. 0 where there are none.
+/// Returns the mean squared error: the sum of squared errors divided by the number of samples, or 0 if there are no samples.
 ///
-/// A sum or a number of samples from 2^53 on is rounded to 53 bits before the division.
+/// If one of these numbers is 2^53 or greater, it is rounded to 53 bits before the division.
 fn mean_squared_error(sum: u128, pixels: u128) -> f64 {
     if sum == 0 {
         return 0.0;
@@ -74,7 +75,7 @@ fn nearest(number: u128) -> f64 {
     high * 18446744073709551616.0 + low
 }
 
-/// Returns the peak signal-to-noise ratios that belong to mean squared errors.
+/// Returns the peak signal-to-noise ratios for mean squared errors, in decibels.
 fn ratios(mse: &FrameMeasure, bit_depth: u8) -> FrameMeasure {
     FrameMeasure {
         all: psnr(mse.all, bit_depth),
@@ -84,7 +85,7 @@ fn ratios(mse: &FrameMeasure, bit_depth: u8) -> FrameMeasure {
     }
 }
 
-/// Returns the ratio of a chroma plane, where there is one.
+/// Returns the peak signal-to-noise ratio of a chroma plane, or `None` if the frames do not have it.
 fn chroma_ratio(mse: Option<f64>, bit_depth: u8) -> Option<f64> {
     match mse {
         Some(mse) => Some(psnr(mse, bit_depth)),
@@ -102,7 +103,7 @@ pub(crate) struct Means {
 }
 
 impl Means {
-    /// Returns those of no frames.
+    /// Returns the means of no frames.
     pub(crate) fn new() -> Self {
         let none = Mean::new();
         Means {
@@ -113,7 +114,7 @@ impl Means {
         }
     }
 
-    /// Adds a frame.
+    /// Adds the measure of a frame.
     pub(crate) fn add(&mut self, measure: &FrameMeasure) {
         self.all.add(measure.all);
         self.y.add(measure.y);
@@ -125,7 +126,7 @@ impl Means {
         }
     }
 
-    /// Returns the means. `None` where there are no frames.
+    /// Returns the means, or `None` if there were no frames.
     pub(crate) fn values(&self) -> Option<FrameMeasure> {
         match (self.all.value(), self.y.value()) {
             (Some(all), Some(y)) => Some(FrameMeasure {

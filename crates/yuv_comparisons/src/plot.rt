@@ -1,4 +1,4 @@
-//! The command `plot`: how far two streams are apart, frame by frame, as a chart.
+//! The command `plot`: draws a chart of the differences of two streams, frame by frame.
 ghost use Rattle.std.specs.Prelude.{◌≡◌, ◌+◌, ◌-◌, ◌^◌, min, unwrap_or};
 ghost use Rattle.yuv_system.specs.Options.{plot_of};
 ghost use Rattle.yuv_words.specs.declared.command.CommandName.TheVariants.{Plot};
@@ -24,11 +24,12 @@ use yuv_system::{
 };
 use yuv_words::{Call, Options};
 
-/// Draws how far two streams are apart.
+/// Draws a chart of the differences of two streams, frame by frame.
 ///
 /// # Errors
 ///
-/// Where a stream can't be read, the streams can't be compared, no frame is, or the chart can't be written.
+/// A [`Fault`] if a stream can't be read, if the streams can't be compared, if no frames were compared, or if the chart can't be
+/// written.
 pub fn do_plot<H, I, O, E>(
     system: &mut System<'_, H, I, O, E>,
     call: &Call<'_>,
@@ -82,8 +83,8 @@ fn write_drawn<W: Write + Drop>(mut out: W, text: &str) -> Result<Status, Fault>
     }
 }
 
-/// Returns the chart of what is taken of both streams. If one of them breaks off, the chart has the frames before, and the error is
-/// returned with it.
+/// Returns the chart of the frames that the options select. If a stream breaks off, the chart has the frames before, and the
+/// error is returned with it.
 fn drawn<R: io::Read, S: io::Read, P: Progress>(
     alloc: Global,
     first: &mut Source<R>,
@@ -122,7 +123,7 @@ fn drawn<R: io::Read, S: io::Read, P: Progress>(
     }
 }
 
-/// Returns what is taken of both streams.
+/// Returns the options for reading both streams.
 fn frames_taken(options: &Options) -> CompareOptions
     ensures { result ≡ plot_of options.now }
 {
@@ -134,14 +135,14 @@ fn frames_taken(options: &Options) -> CompareOptions
     )
 }
 
-/// Returns the number of the first frame that is taken of the first stream, whose own first is frame 1.
+/// Returns the number of the first frame that is compared, counted from 1 in the first stream.
 fn first_frame(options: &Options) -> u64
     ensures { result ≡ min (unwrap_or options.now.skip 0 + 1) (2 ^ 64 - 1) }
 {
     options.skip.unwrap_or(0).saturating_add(1)
 }
 
-/// The numbers of each frame, plane by plane.
+/// The values of each frame, plane by plane.
 #[derive(Drop)]
 struct PlaneCurves {
     y: Vec<f64>,
@@ -150,7 +151,7 @@ struct PlaneCurves {
 }
 
 impl PlaneCurves {
-    /// Has no frame yet.
+    /// Returns an empty list of values for each plane.
     fn new(alloc: Global) -> Self {
         PlaneCurves {
             y: Vec::new(alloc),
@@ -159,7 +160,7 @@ impl PlaneCurves {
         }
     }
 
-    /// Adds a frame.
+    /// Adds the values of a frame.
     fn add(&mut self, values: &FrameMeasure) -> Result<(), AllocError> {
         self.y.push(values.y)?;
         if let Some(u) = values.u {
@@ -171,7 +172,7 @@ impl PlaneCurves {
         Ok(())
     }
 
-    /// Returns the chart of the planes that there are.
+    /// Returns the chart of the planes that have values.
     fn chart<'a>(
         &'a self,
         alloc: Global,
@@ -206,7 +207,7 @@ impl PlaneCurves {
     }
 }
 
-/// What is drawn: ratios, and similarities where frames are large enough.
+/// The curves of the chart: ratios, and structural similarities if the frames are large enough.
 #[derive(Drop)]
 struct Curves {
     first: u64,
@@ -216,7 +217,7 @@ struct Curves {
 }
 
 impl Curves {
-    /// Has no frame yet.
+    /// Returns curves without frames.
     fn new(alloc: Global, first: u64, scale: Scale) -> Self {
         Curves {
             first,
@@ -226,7 +227,7 @@ impl Curves {
         }
     }
 
-    /// Adds two frames.
+    /// Adds the values of two frames.
     fn add<T: Pixel>(
         &mut self,
         first: &Frame<T>,
@@ -244,7 +245,7 @@ impl Curves {
         }
     }
 
-    /// Returns the charts, one above the other, with the names of both files above them.
+    /// Returns a picture with the charts one below the other, and the names of both files above them.
     fn chart(
         &self,
         alloc: Global,
@@ -273,7 +274,7 @@ impl Curves {
     }
 }
 
-/// Appends the head of a white picture of this height.
+/// Appends the beginning of a white picture that is `height` pixels high.
 fn push_head(text: &mut String, height: usize) -> Result<(), AllocError> {
     write!(
         text,
@@ -282,7 +283,7 @@ fn push_head(text: &mut String, height: usize) -> Result<(), AllocError> {
     )
 }
 
-/// Appends the names of two files, and whether their frames are the same.
+/// Appends the names of two files, and whether their frames are equal.
 fn push_names(
     alloc: Global,
     text: &mut String,
@@ -305,7 +306,8 @@ fn push_names(
     )
 }
 
-/// Returns a name with at most 48 characters: of a longer one the first and the last, and three dots between them.
+/// Returns a name with at most 48 characters. A longer name is replaced by its first and last characters with three dots between
+/// them.
 fn shortened(alloc: Global, name: &str) -> Result<String, AllocError> {
     let count = name.chars().count();
     let mut text = String::new(alloc);

@@ -1,4 +1,4 @@
-//! What was found in the frames that were compared so far, so that it can be reported if a stream breaks off.
+//! The results for the frames that were compared so far. They are reported if a stream breaks off.
 ghost use Rattle.std.specs.Prelude.{◌≡◌, IfSome, Some};
 ghost use Rattle.yuv_comparisons.specs.SoFar.{sums_so_far};
 
@@ -10,17 +10,17 @@ use v_frame_measures::frames_have_one_size;
 use v_frame_streams::{Comparison, PlaneSums};
 use yuv_pictures::{PlaneDifference, differences, has_sample_above};
 
-/// What was found in the frames that were compared so far.
+/// The results for the frames that were compared so far.
 #[derive(Clone, Copy)]
 pub(crate) struct SoFar {
-    /// The sums of squared errors. `None` before the first frame.
+    /// The sums of squared errors, or `None` before the first frame.
     pub(crate) errors: Option<PlaneSums>,
-    /// The first sample that differs, and how many of the frames precede its own.
+    /// The number of frames before the first one that differs, and the first sample in it that differs.
     pub(crate) difference: Option<(u64, PixelDifference)>,
 }
 
 impl SoFar {
-    /// Has no frame.
+    /// Returns the results for no frames.
     pub(crate) fn new() -> Self {
         SoFar {
             errors: None,
@@ -28,7 +28,7 @@ impl SoFar {
         }
     }
 
-    /// Adds two frames with these errors, after `before` others.
+    /// Adds two frames with these errors, which follow `before` other pairs.
     pub(crate) fn add<T: Pixel>(
         &mut self,
         before: u64,
@@ -51,7 +51,7 @@ impl SoFar {
         }
     }
 
-    /// Returns what was found in `frames` frames. `no_errors` are the sums of no frames.
+    /// Returns the results for `frames` frames. `no_errors` has the sums that are used if there are no frames.
     pub(crate) fn comparison(&self, frames: u64, no_errors: PlaneSums) -> Comparison {
         Comparison {
             frames,
@@ -62,7 +62,7 @@ impl SoFar {
     }
 }
 
-/// Returns the first sample that two frames show differently.
+/// Returns the first sample in which two frames differ, or `None` if they are equal.
 fn first_difference_of<T: Pixel>(first: &Frame<T>, second: &Frame<T>) -> Option<PixelDifference> {
     if !frames_have_one_size(first, second) {
         return None;
@@ -79,7 +79,7 @@ fn first_difference_of<T: Pixel>(first: &Frame<T>, second: &Frame<T>) -> Option<
     chroma_sample(Component::V, &first.v_plane, &second.v_plane, &found.v)
 }
 
-/// Returns the first sample of chroma planes that differs.
+/// Returns the first sample in which two chroma planes differ, or `None` if they are equal.
 fn chroma_sample<T: Pixel>(
     component: Component,
     first: &Option<Plane<T>>,
@@ -92,7 +92,7 @@ fn chroma_sample<T: Pixel>(
     }
 }
 
-/// Returns the first sample of two planes that differs.
+/// Returns the first sample in which two planes differ, or `None` if they are equal.
 fn sample_at<T: Pixel>(
     component: Component,
     first: &Plane<T>,
@@ -110,7 +110,7 @@ fn sample_at<T: Pixel>(
     })
 }
 
-/// The first frame of each of two streams that has samples above the greatest value of its bit depth, by its number.
+/// The numbers of the first frames of two streams that have samples above the greatest value of their bit depth.
 #[derive(Clone, Copy)]
 pub(crate) struct Above {
     pub(crate) first: Option<u64>,
@@ -118,7 +118,7 @@ pub(crate) struct Above {
 }
 
 impl Above {
-    /// Has no frame.
+    /// Returns the value before any frame was tested.
     pub(crate) fn new() -> Self {
         Above {
             first: None,
@@ -126,7 +126,7 @@ impl Above {
         }
     }
 
-    /// Looks at two frames, which have these numbers.
+    /// Tests two frames, which have the numbers `one` and `other`.
     pub(crate) fn note<T: Pixel>(
         &mut self,
         (one, first): (u64, &Frame<T>),
@@ -137,8 +137,8 @@ impl Above {
     }
 }
 
-/// Returns the number of the first frame with samples above its bit depth: `known`, or else this number if the frame has such a
-/// sample. No sample of 8 bits is above them.
+/// Returns the number of the first frame that has a sample above the greatest value of its bit depth: `known` if it is not
+/// `None`, and otherwise `number` if this frame has such samples. Samples of 8 bits are never above it.
 pub(crate) fn noted<T: Pixel>(known: Option<u64>, number: u64, frame: &Frame<T>) -> Option<u64>
     ensures { IfSome known (λ found. result ≡ Some found) }
 {

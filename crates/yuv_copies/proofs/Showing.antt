@@ -36,7 +36,8 @@ module _ {T : Type 0} where
     bare_size Monochrome (Some plane) size = cc
     bare_size Monochrome None size = refl
 
-    -- a chroma plane that shows what stands beside a part of luma has the size of chroma beside it
+    -- If a chroma plane contains the samples of a part of luma, it has the size of chroma for that
+    -- part.
     chroma_size : (s : ChromaSubsampling) (plane made : Option (Raster T))
         → option_map size_laid_out plane ≡ chroma_sizes_of s width height
         → option_map geometry_laid_out made ≡ option_map (unpadded_geometry (beside (ratio_or_one s) part)) plane

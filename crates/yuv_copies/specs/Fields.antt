@@ -1,4 +1,4 @@
--- Frames of two fields.
+-- Frames that consist of two fields.
 use Rattle.std.specs.Prelude.{◌≡◌, ◌*◌, ◌%◌, Bool, true, false, Option, Some, None, IfSome}
 use Rattle.v_frame.specs.Prelude.{ChromaSubsampling, Yuv411, Yuv420, Yuv422, Yuv444}
 use Rattle.v_frame_formats.specs.declared.rectangle.Rectangle.{Rectangle}
@@ -8,7 +8,7 @@ use Rattle.v_frame_y4m.specs.declared.header.Interlacing.{Interlacing}
 use Rattle.v_frame_y4m.specs.declared.header.Interlacing.TheVariants.{Progressive, TopFirst, BottomFirst, Mixed, Unknown}
 use Rattle.v_frame_y4m.specs.declared.header.StreamHeader.{StreamHeader}
 
--- each frame is, or may be, made of two fields, which are of two moments
+-- Whether frames consist of two fields, which were recorded at different times, or may do so.
 abbrev pub has_fields : Option Interlacing → Bool
 has_fields None = false
 has_fields (Some Progressive) = false
@@ -17,7 +17,7 @@ has_fields (Some BottomFirst) = true
 has_fields (Some Mixed) = true
 has_fields (Some Unknown) = false
 
--- chroma of this subsampling has a row for each two of luma, or one for each
+-- Whether chroma of this subsampling has one row for two rows of luma.
 abbrev pub halves_rows : ChromaSubsampling → Bool
 halves_rows Yuv420 = true
 halves_rows _ = false
@@ -28,7 +28,7 @@ has_all_rows Yuv411 = true
 has_all_rows Yuv444 = true
 has_all_rows _ = false
 
--- a part begins at a row of the first field, in luma and in chroma, where frames have fields
+-- If frames have fields, the crop begins at a row of the first field, in luma and in chroma.
 abbrev pub KeepsFields : Option Rectangle → StreamHeader → Type 0
 KeepsFields crop header =
     IfSome crop (λ part. has_fields header.interlacing ≡ true

@@ -1,4 +1,4 @@
--- What `show` makes of a frame: a picture of one plane in gray, or of the colors.
+-- The pictures that `show` writes: one plane in gray, or the colors of a frame.
 use Rattle.std.specs.Prelude.{ℕ, ◌≡◌, ◌+◌, ◌*◌, ◌≤◌, List, Option, Some, None, option_map, unwrap_or}
 use Rattle.std.specs.Prelude.{IfSome, IsSomeAnd, MatchOption}
 use Rattle.std.specs.Int.NonZero.{non_zero_u8_get}
@@ -20,17 +20,17 @@ use Rattle.v_frame_formats.specs.declared.rectangle.Rectangle.{Rectangle}
 use Rattle.v_frame_formats.specs.declared.component.Component.{Component}
 use Rattle.yuv_words.specs.declared.command.Options.{Options as OptionWords}
 
--- by which standard and range the colors of pictures of a stream are made
+-- The color standard and the range of pictures of a stream.
 abbrev pub colors_asked : OptionWords → StreamHeader → Colors
 colors_asked options header =
     record { standard = matrix_of options.matrix header; range = used_range options.range header }
 
--- the header of a picture, and the bytes of its rows
+-- The header of a picture, and the bytes of its rows.
 abbrev pub Drawing : Type 0
 Drawing = Header × Table ℕ
 
 module _ {T : Type 0} (form : PixelForm T) (frame : Frame T) where
-  -- a plane of the frame in gray
+  -- The picture of a plane in gray.
   abbrev pub plane_drawing : Raster T → Drawing
   plane_drawing plane =
       let depth = non_zero_u8_get frame.bit_depth in (
@@ -38,7 +38,7 @@ module _ {T : Type 0} (form : PixelForm T) (frame : Frame T) where
         gray_rows form depth (table_of plane),
       )
 
-  -- its colors
+  -- The picture of the colors.
   abbrev pub color_drawing : Colors → Drawing
   color_drawing colors = (
     picture_header frame.y_plane.geometry.width frame.y_plane.geometry.height
@@ -46,16 +46,17 @@ module _ {T : Type 0} (form : PixelForm T) (frame : Frame T) where
     frame_rows form frame colors,
   )
 
-  -- the plane of this name, where the frame has it, or else the colors
+  -- The picture of the plane with this name, if the frame has it; or of the colors if no plane is
+  -- named.
   abbrev pub drawing_of : Option Component → Colors → Option Drawing
   drawing_of None colors = Some (color_drawing colors)
   drawing_of (Some name) colors = option_map plane_drawing (plane_named frame name)
 
-  -- what the options ask for of a stream
+  -- The picture of a frame that the options request.
   abbrev pub drawing_asked : OptionWords → StreamHeader → Option Drawing
   drawing_asked options header = drawing_of options.plane (colors_asked options header)
 
--- why that is not drawn, of pixels of so many bytes
+-- The reason why the picture is not written. Samples have `bytes` bytes.
 abbrev pub StopsDrawing : {T : Type 0} → ℕ → Frame T → Option Component → PictureError → Type 0
 StopsDrawing bytes frame None error = StopsFrame bytes frame error
 StopsDrawing bytes frame (Some name) error =
@@ -63,20 +64,20 @@ StopsDrawing bytes frame (Some name) error =
     (λ plane. StopsGray bytes (non_zero_u8_get frame.bit_depth) plane.geometry.width
     plane.geometry.height error)
 
--- what is shown of a picture: the part that the options say, or all of it
+-- The part of a picture that is shown: the part that the options request, or the whole picture.
 abbrev pub part_shown : {T : Type 0} → ChromaSubsampling → Option Rectangle → Tables T → Tables T
 part_shown subsampling None tables = tables
 part_shown subsampling (Some part) tables = cropped subsampling part tables
 
--- the sizes of its planes, in pictures of a stream
+-- The sizes of the planes of this part in pictures of a stream.
 abbrev pub sizes_shown : Option Rectangle → StreamHeader → Sizes
 sizes_shown None header = sizes_in header
 sizes_shown (Some part) header =
     sizes_in (record header { width = part.width; height = part.height })
 
 module _ (stream : Stream) (left left' : Option (List ℕ)) (options : OptionWords) where
-  -- the frame of the number that the options say was read, of pictures that are no larger than they
-  -- allow, which have the part that they say; it shows these tables
+  -- The frame with the requested number was read. Its picture has no more pixels than the options
+  -- allow, and contains the requested part. `tables` are the samples of the frame.
   pub record TakesFrame {T : Type 0} (form : PixelForm T) (tables : Tables T) : Type 0 where
     pub before : ℕ
     pub number : before + 1 ≡ unwrap_or options.frame 1
@@ -84,8 +85,7 @@ module _ (stream : Stream) (left left' : Option (List ℕ)) (options : OptionWor
     pub part : IfSome options.crop (λ part. IsTakable part stream.header)
     pub small : stream.header.width * stream.header.height ≤ most_pixels options.max_pixels
 
-  -- such a frame was read, and a writer got the picture of it, or of a part of it, that the options
-  -- ask for
+  -- The requested frame was read, and the requested picture of it or of a part of it was written.
   pub record ShowsFrame {T W : Type 0} (form : PixelForm T) (contents : W → Option (List ℕ))
       (start : Option (List ℕ)) (new : W) : Type 0 where
     pub tables : Tables T

@@ -1,4 +1,4 @@
--- What a copy takes of a stream, and of what it warns.
+-- The options of a copy, and its warnings.
 use Rattle.std.specs.Prelude.{ℕ, ◌-◌, ◌&&◌, not, if◌then◌else◌, nat_lt, Bool, true, false, Option, Some, None}
 use Rattle.v_frame_formats.specs.Formats.{format_depth, format_subsampling}
 use Rattle.v_frame_formats.specs.declared.format.VideoFormat.{VideoFormat}
@@ -16,14 +16,14 @@ use Rattle.yuv_system.specs.Headers.{declared_range}
 use Rattle.yuv_system.specs.Options.{copy_of}
 use Rattle.yuv_words.specs.declared.command.Options.{Options as OptionWords}
 
--- with `--salvage` a crop is taken, of the whole picture if nobody says another, so that frames are
--- read whole before they are written
+-- With `--salvage`, frames are cropped, so that complete frames are read before they are written.
+-- The crop is the whole picture if no other one is requested.
 abbrev pub copy_asked : OptionWords → StreamHeader → CopyOptions
 copy_asked options header =
     if options.salvage then record (copy_of options) { crop = Some (taken (copy_of options) header) }
     else copy_of options
 
--- a format with fewer rows of chroma
+-- The format has fewer chroma rows than the stream.
 abbrev pub blends_chroma : Option VideoFormat → StreamHeader → Bool
 blends_chroma None header = false
 blends_chroma (Some format) header =
@@ -35,7 +35,8 @@ field_warning half format header =
     else (if half then Some HalfBlendsFields
     else (if blends_chroma format header then Some FormatBlendsFields else None))
 
--- a sample of the greatest value of one depth, shifted to another one
+-- The value of white and the greatest value, after white of full range is shifted from one depth to
+-- another.
 abbrev pub shifted_white : ℕ → ℕ → CopyWarning
 shifted_white from to =
     FormatShiftsFullRange (most_at to - most_at (to - from)) (most_at to)

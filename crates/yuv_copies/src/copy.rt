@@ -1,4 +1,4 @@
-//! The command `copy`: a stream is written once more.
+//! The command `copy`: copies a stream.
 ghost use Rattle.std.specs.Prelude.{◌≡◌, ◌≤◌, ◌<◌, ◌-◌, ◌*◌, ◌%◌, ◌⊎◌, ◌&&◌, ◌+◌, false, IfErr, IfOk, IsTrue, OnOk};
 ghost use Rattle.yuv_copies.specs.Fields.{has_all_rows, has_fields, halves_rows, KeepsFields};
 ghost use Rattle.yuv_copies.specs.Warnings.{copy_asked, field_warning as warning_on_fields, range_warning as warning_on_range};
@@ -27,11 +27,11 @@ use yuv_system::{
 };
 use yuv_words::{Call, Options};
 
-/// Writes a stream once more.
+/// Copies a stream, or a part of it, with the changes that the options request.
 ///
 /// # Errors
 ///
-/// Where the stream can't be read, or what the options make of it can't be written.
+/// A [`Fault`] if the stream can't be read, or if the copy can't be written.
 pub fn do_copy<H, I, O, E>(
     system: &mut System<'_, H, I, O, E>,
     call: &Call<'_>,
@@ -104,7 +104,7 @@ where
     Ok(Status::Same)
 }
 
-/// Returns the kind of file that a copy writes.
+/// Returns the kind of file that a copy is.
 fn written_kind(options: &Options) -> FileKind
     ensures { result ≡ kind_of_copy options.now.raw_output }
 {
@@ -115,7 +115,7 @@ fn written_kind(options: &Options) -> FileKind
     }
 }
 
-/// How many frames of a stream that breaks off are in its copy.
+/// A message with the number of frames that were copied before a frame that cannot be read.
 #[derive(Clone, Copy)]
 struct Salvaged {
     frames: u64,
@@ -128,18 +128,18 @@ impl fmt::Display for Salvaged {
     }
 }
 
-/// What a copy does to the samples of a stream that a user may not expect.
+/// A change of samples that users may not expect of a copy.
 #[derive(Debug, Clone, Copy, PartialEq, Eq)]
 pub enum CopyWarning {
-    /// Each row is made of rows of two fields, which are of two moments.
+    /// Each row of the copy is calculated from rows of two fields, which were recorded at different times.
     HalfBlendsFields,
-    /// Each row of chroma is.
+    /// Each chroma row of the copy is calculated from rows of two fields.
     FormatBlendsFields,
-    /// Samples of the full range are shifted to more bits, so that the strongest is not the greatest value.
+    /// Samples of full range are shifted to a greater bit depth, so that white is not the greatest value.
     FormatShiftsFullRange {
-        /// The value that the greatest one becomes.
+        /// The value of white in the copy.
         white: u16,
-        /// The greatest value of the copy.
+        /// The greatest value of the bit depth of the copy.
         most: u16,
     },
 }
@@ -161,7 +161,7 @@ impl fmt::Display for CopyWarning {
     }
 }
 
-/// Returns whether the frames of a stream are, or may be, made of two fields.
+/// Returns whether the frames of a stream consist of two fields, or may do so.
 fn is_interlaced(header: &StreamHeader) -> bool
     ensures { result ≡ has_fields header.now.interlacing }
 {
@@ -171,14 +171,14 @@ fn is_interlaced(header: &StreamHeader) -> bool
     )
 }
 
-/// Writes a message on a copy of the file of this name, if there is a warning.
+/// Writes a message about the copy of the file `name`, if there is a warning.
 fn write_warning<E: io::Write>(messages: &mut E, name: &str, warning: Option<CopyWarning>) {
     if let Some(warning) = warning {
         write_message(messages, Some(shown_name(name)), &warning);
     }
 }
 
-/// Returns the warning on a copy that blends fields.
+/// Returns the warning for a copy that mixes rows of two fields, or `None` for other copies.
 fn field_warning(options: &Options, header: &StreamHeader) -> Option<CopyWarning>
     ensures { result ≡ warning_on_fields options.now.half options.now.format header.now }
 {
@@ -196,7 +196,7 @@ fn field_warning(options: &Options, header: &StreamHeader) -> Option<CopyWarning
     }
 }
 
-/// Returns whether chroma of a subsampling has fewer rows in another one, in which it is there.
+/// Returns whether the subsampling `to` has chroma with fewer rows than the subsampling `from`.
 fn blends_chroma(from: ChromaSubsampling, to: ChromaSubsampling) -> bool
     ensures { result ≡ (halves_rows to && has_all_rows from) }
 {
@@ -207,7 +207,7 @@ fn blends_chroma(from: ChromaSubsampling, to: ChromaSubsampling) -> bool
         )
 }
 
-/// Returns the warning on a copy that has more bits than a stream of the full range.
+/// Returns the warning for a copy of a full-range stream to a greater bit depth, or `None` for other copies.
 fn range_warning(options: &Options, header: &StreamHeader) -> Option<CopyWarning>
     ensures { result ≡ warning_on_range options.now.format header.now }
 {
@@ -225,11 +225,12 @@ fn range_warning(options: &Options, header: &StreamHeader) -> Option<CopyWarning
     }
 }
 
-/// Tests whether a crop keeps the fields of interlaced video.
+/// Tests whether a crop keeps the order of the fields of interlaced video.
 ///
 /// # Errors
 ///
-/// [`Fault::SwapsFields`] if the crop begins at a row of luma or chroma that is of the other field, unless `--force` is given.
+/// [`Fault::SwapsFields`] if the first row of the crop, in luma or chroma, belongs to the second field, unless `--force` is
+/// given.
 fn test_fields(options: &Options, header: &StreamHeader) -> Result<(), Fault>
     ensures kept { OnOk result (IsTrue options.now.force ⊎ KeepsFields options.now.crop header.now) }
     ensures rejected { IfErr result (λ _. ¬ (KeepsFields options.now.crop header.now)) }
@@ -243,7 +244,7 @@ fn test_fields(options: &Options, header: &StreamHeader) -> Result<(), Fault>
     if options.force || !is_interlaced(header) || part.y % step == 0 {
         return Ok(());
     }
-    // No picture has a row so far down that the next multiple is no number.
+    // This avoids an overflow. No picture has a row whose next multiple is above the greatest `usize`.
     let nearest = match part.y.checked_add(step) {
         Some(_) => nearest_multiple(part.y, step),
         None => 0,
@@ -255,7 +256,7 @@ fn test_fields(options: &Options, header: &StreamHeader) -> Result<(), Fault>
     })
 }
 
-/// Returns the multiple of `step` that is nearest to a row: of two that are equally near the lesser one.
+/// Returns the multiple of `step` that is nearest to `row`. If two are equally near, returns the lesser one.
 fn nearest_multiple(row: usize, step: usize) -> usize
     requires some { 0 < step }
     requires room { row + step ≤ usize_max }
@@ -270,7 +271,8 @@ fn nearest_multiple(row: usize, step: usize) -> usize
     below + step
 }
 
-/// Returns the options of a copy, which reads whole frames with `--salvage`: as a crop that is the whole picture.
+/// Returns the options of a copy. With `--salvage`, a crop of the whole picture is added, so that complete frames are read before
+/// they are written.
 fn copy_options(options: &Options, header: &StreamHeader) -> CopyOptions
     ensures { result ≡ copy_asked options.now header.now }
 {
@@ -286,11 +288,12 @@ fn copy_options(options: &Options, header: &StreamHeader) -> CopyOptions
     taken
 }
 
-/// Writes a stream once more as the options say, and counts the frames that are written.
+/// Copies a stream as the options specify, and returns the number of frames that were written.
 ///
 /// # Errors
 ///
-/// Those of [`copy_stream`], and that of a picture that has more pixels than the options allow, also where none is made in memory.
+/// The errors of [`copy_stream`], and `Problem::TooManyPixels` if its pictures have more pixels than the options allow, even if
+/// no picture is held in memory.
 pub fn copy_source<R: io::Read, W: io::Write, P: Progress>(
     alloc: Global,
     source: &mut Source<R>,

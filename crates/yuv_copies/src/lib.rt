@@ -1,4 +1,4 @@
-//! The commands of `yuv` that write what they read: `copy` a stream, and `show` one of its frames as a picture.
+//! The commands of `yuv` that write the video that they read: `copy` writes a stream, and `show` writes a frame as a picture.
 #![tactic(auto)]
 
 mod copy;

@@ -1,4 +1,4 @@
-//! The command `show`: a frame as a picture.
+//! The command `show`: saves a frame as a picture.
 ghost use Rattle.std.specs.Prelude.{◌≡◌, IfErr, IfOk, IsSomeAnd};
 ghost use Rattle.v_frame_png.specs.Prelude.{HasFile};
 ghost use Rattle.v_frame.specs.Prelude.{tables_of};
@@ -28,12 +28,12 @@ use yuv_system::{
 };
 use yuv_words::{Call, Options};
 
-/// Writes a frame of a stream as a picture.
+/// Saves a frame of a stream as a picture.
 ///
 /// # Errors
 ///
-/// Where the stream can't be read, its pictures have more pixels than allowed, not that part or not that plane, or it has no such
-/// frame, the number 0 among them; and where the picture can't be made or written.
+/// A [`Fault`] if the stream can't be read, or does not have the requested frame, plane or part; if the frame number is 0; if its
+/// pictures have more pixels than the options allow; or if the picture can't be created or written.
 pub fn do_show<H, I, O, E>(
     system: &mut System<'_, H, I, O, E>,
     call: &Call<'_>,
@@ -58,7 +58,7 @@ where
     test_target(rt, &target)?;
     let mut file = open_file(rt, from, Place::First, &mut system.input)?;
     let mut source = begin(system, from, &mut file, options.raw)?;
-    // Before a file is made for the picture.
+    // The size is tested before a file is created.
     test_pixels(
         source.header(),
         Place::First,
@@ -89,8 +89,8 @@ where
     Ok(Status::Same)
 }
 
-/// Reports by which matrix and which range the colors of a picture were made: on standard error if the picture goes to standard
-/// output.
+/// Prints the color standard and the range with which the picture was calculated: on standard error if the picture goes to
+/// standard output.
 fn report_colors<H: AllocGlobal + Clock, I, O: io::Write, E: io::Write>(
     system: &mut System<'_, H, I, O, E>,
     to: &str,
@@ -102,7 +102,7 @@ fn report_colors<H: AllocGlobal + Clock, I, O: io::Write, E: io::Write>(
         let Ok(text) = text else {
             return Err(Fault::Report(no_memory()));
         };
-        // The picture is written, whether this can be said or not.
+        // The picture is already written, so an error here is ignored.
         let _ = write_text(system.progress.out(), text.as_str());
         return Ok(());
     }
@@ -112,7 +112,7 @@ fn report_colors<H: AllocGlobal + Clock, I, O: io::Write, E: io::Write>(
     }
 }
 
-/// Writes the frame that the options name, or a part of it, and returns the writer.
+/// Writes the requested frame or a part of it, and returns the writer.
 fn show_frame<T: Pixel, R: io::Read, W: io::Write + Drop>(
     alloc: Global,
     source: &mut Source<R>,
@@ -135,15 +135,15 @@ fn show_frame<T: Pixel, R: io::Read, W: io::Write + Drop>(
     }
 }
 
-/// Notes the number of a frame, 1 unless one is asked for, if the frame has a sample above the greatest value of its bit depth. No sample
-/// of 8 bits is above them.
+/// Sets `above` to the number of a frame, which is 1 by default, if it has a sample above the greatest value of its bit depth.
+/// Samples of 8 bits are never above it.
 fn note_above<T: Pixel>(frame: &Frame<T>, number: Option<u64>, above: &mut Option<u64>) {
     if frame.bit_depth.get() > 8 && has_sample_above(frame) {
         *above = Some(number.unwrap_or(1));
     }
 }
 
-/// Reads the frame that the options name. The part that they name is tested before a frame is read.
+/// Reads the requested frame. The requested part is tested before a frame is read.
 fn read_picture<T: Pixel, R: io::Read>(
     alloc: Global,
     source: &mut Source<R>,
@@ -162,12 +162,12 @@ fn read_picture<T: Pixel, R: io::Read>(
     let most = most_pixels(options.max_pixels);
     let mut picture = Picture::<T>::new(alloc, source, most)?;
     read_behind(source, &mut picture, before, Place::First)?;
-    // The planes are laid out in the sizes that they show.
+    // The planes have the sizes that they show.
     let _frame = picture.frame();
     Ok(picture)
 }
 
-/// Returns a part of a picture.
+/// Returns the requested part of a picture.
 fn crop_picture<T: Pixel, R: io::Read>(
     alloc: Global,
     source: &Source<R>,
@@ -190,7 +190,7 @@ fn crop_picture<T: Pixel, R: io::Read>(
     }
 }
 
-/// Writes one plane of a frame, or its colors, and returns the writer.
+/// Writes one plane of a frame or its colors, and returns the writer.
 fn write_picture<T: Pixel, W: io::Write + Drop>(
     alloc: Global,
     out: W,
@@ -209,7 +209,7 @@ fn write_picture<T: Pixel, W: io::Write + Drop>(
     }
 }
 
-/// Writes one plane of a frame, or its colors.
+/// Writes one plane of a frame or its colors.
 fn draw_picture<T: Pixel, W: io::Write + Drop>(
     alloc: Global,
     out: W,
@@ -227,7 +227,8 @@ fn draw_picture<T: Pixel, W: io::Write + Drop>(
     }
 }
 
-/// Returns how the colors of the pictures of a stream are made: as the options say, or else as the header says.
+/// Returns the color standard and the range for the pictures of a stream: those of the options if given, and those of the header
+/// otherwise.
 fn colors_of(options: &Options, header: &StreamHeader) -> Colors
     ensures { result ≡ colors_asked options.now header.now }
 {

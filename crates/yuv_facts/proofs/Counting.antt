@@ -1,4 +1,4 @@
--- The values of one more frame, and of all of them.
+-- Counts of values after one more frame, and after all frames.
 use Rattle.std.proofs.Common.{◌≡◌, ◌≤◌, ◌∙◌, ◌+◌, ◌-◌, ◌^◌, ◌++◌, ◌∷◌, [], ℕ, Bool, false, List, Ok, Err, Option, Result, Some, None, ap, arith, inl, inr, length, length-append, map, refl, subst, sym}
 use Rattle.std.proofs.lemmas.List.{append-nil, map-append}
 use Rattle.std.proofs.lemmas.Grind.{flat_map-append}
@@ -16,17 +16,17 @@ use Rattle.v_frame_streams.specs.Prelude.{tables_of_bytes, Framed, ReadsFrames, 
 use Rattle.v_frame_streams.specs.declared.stream.Container.{Container}
 use Rattle.v_frame_streams.proofs.Reading.{no_more_read, none_read, one_more_read}
 
--- a sum that stays at a limit
+-- A limited sum of a limited sum is the limited sum.
 capped : (a b most : ℕ) → min (min a most + b) most ≡ min (a + b) most
 capped a b most = omega arith
 
--- what is there shows something
+-- A plane that exists has a table.
 pub there_too : {X Y Z : Type 0} (f : X → Y) (g : Y → Z) (there : Option X)
     → is_some there ≡ is_some (option_map g (option_map f there))
 there_too f g None = refl
 there_too f g (Some x) = refl
 
--- what holds of a call that was done
+-- If a call succeeds, the result has the property that its contract states.
 pub done_of : {A E : Type 0} (result : Result A E) (P : Type 0) → OnOk result P → false ≡ is_err result → P
 done_of (Ok done) P holds said = holds
 done_of (Err error) P holds said = absurd (cc)
@@ -63,7 +63,7 @@ module _ {T : Type 0} (form : PixelForm T) (bound : ℕ) where
     ap (λ (c : Option ValueCounts). is_some c) more,
   )
 
-  -- the chroma planes of one more frame
+  -- The chroma planes of one more frame.
   chroma_more : (plane : Tables T → Option (Table T)) (frames : List (Tables T)) (tables : Tables T)
       → flat_map (λ t. option_to_list (plane t)) (frames ++ tables ∷ [])
       ≡ flat_map (λ t. option_to_list (plane t)) frames ++ option_to_list (plane tables)
@@ -114,7 +114,7 @@ module _ {T : Type 0} (form : PixelForm T) (bound : ℕ) where
     shows : Framed → Tables T
     shows frame = tables_of_bytes form layout sizes frame.1
 
-    -- so many frames were read, and their values were counted
+    -- The frames that were read so far are `n`, and their values were counted.
     pub record CountsSoFar (left left' : Option (List ℕ)) (n : ℕ) (found : Counts) : Type 0 where
       pub frames : List Framed
       pub read : ReadsFrames left left' from len frames
@@ -169,7 +169,7 @@ module _ {T : Type 0} (form : PixelForm T) (bound : ℕ) where
       counted = before.values;
     }
 
--- a text that was made and written
+-- A text was created and written.
 pub made_and_written : {A E : Type 0} (made : Result A E) (P Q : A → Type 0) → IsOkAnd made P → IfOk made Q
     → (a : A) × P a × Q a
 made_and_written (Ok a) P Q written says = (a, written, says)

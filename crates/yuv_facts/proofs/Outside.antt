@@ -1,4 +1,4 @@
--- How many values are outside of a range, one value on.
+-- The number of samples outside a range, with one more value.
 use Rattle.std.proofs.Common.{◌≡◌, ◌∙◌, ◌+◌, ◌<◌, ◌∷◌, [], ℕ, zero, suc, List, add-one, add-zero, add_assoc, ap, arith, length, sym, take, zero-add}
 use Rattle.std.proofs.Math.ListN.{get_or}
 use Rattle.std.specs.Prelude.{if◌then◌else◌}

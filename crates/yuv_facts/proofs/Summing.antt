@@ -1,4 +1,4 @@
--- One more line of checksums, and the end of them.
+-- One more line of checksums, and the end of the lines.
 use Rattle.std.proofs.Common.{◌≡◌, ◌≤◌, ◌∙◌, ◌+◌, ◌++◌, ◌∷◌, [], ℕ, suc, Bool, List, Option, add-zero, ap, append_assoc, arith, inl, inr, length, length-append, refl, subst, sym}
 use Rattle.std.proofs.lemmas.List.{append-nil}
 use Rattle.std.specs.Prelude.{min}
@@ -12,14 +12,14 @@ use Rattle.v_frame_streams.specs.declared.stream.Container.{Container}
 use Rattle.v_frame_streams.proofs.Reading.{no_more_read, none_read, one_more_read}
 
 module _ (from : Container) (len : ℕ) (planes : Bool) (count : ℕ) (sizes : Sizes) (start : ℕ) where
-  -- so many frames were read, and the line of each was written
+  -- The frames that were read so far are `n`, and the line of each was written.
   pub record SumsSoFar (left left' has has' : Option (List ℕ)) (n : ℕ) : Type 0 where
     pub frames : List Framed
     pub read : ReadsFrames left left' from len frames
     pub counted : length frames ≡ n
     pub written : Appends has has' (checksum_lines planes count sizes start frames)
 
-  -- the line of a frame, before which so many stand
+  -- The line of a frame that follows `before` frames.
   line : ℕ → Framed → List ℕ
   line before frame = checksums_line (min (before + 1) most_frames) (checksums_of planes count sizes frame.1)
 

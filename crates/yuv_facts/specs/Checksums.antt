@@ -10,8 +10,8 @@ use Rattle.v_frame_streams.specs.Prelude.{most_frames, CountsFrames, Framed, Rea
 use Rattle.v_frame_streams.specs.declared.stream.Container.{Container}
 use Rattle.yuv_words.specs.declared.command.Options.{Options as OptionWords}
 
--- of the bytes of a frame the CRC-32 of all of them, or of each plane: first those of Y, then those
--- of U, and then those of V, where there is chroma
+-- The checksums of the bytes of a frame: the CRC-32 of all bytes, or of each plane. The bytes of Y
+-- come first, followed by those of U and V if there is chroma.
 abbrev pub checksums_of : Bool → ℕ → Sizes → List ℕ → Checksums
 checksums_of false count sizes bytes = Frame (crc32 bytes)
 checksums_of true count sizes bytes = planes_of sizes.1.0 where
@@ -25,15 +25,15 @@ checksums_of true count sizes bytes = planes_of sizes.1.0 where
       let size = plane_byte_count count (Some u) in
       Planes (crc32 (take y bytes)) (Some (crc32 (take size chroma), crc32 (drop size chroma)))
 
--- the lines of frames, before the first of which so many stand in the file
+-- The lines of frames. In the stream, `before` frames precede the first one.
 abbrev pub checksum_lines : Bool → ℕ → Sizes → ℕ → List Framed → List ℕ
 checksum_lines planes count sizes before [] = []
 checksum_lines planes count sizes before (frame ∷ frames) =
     checksums_line (min (before + 1) most_frames) (checksums_of planes count sizes frame.1)
     ++ checksum_lines planes count sizes (before + 1) frames
 
--- so many frames were read, no more than asked for and fewer only at the end of the stream, and a
--- line for each was written
+-- The frames that were read are at most `most`, and fewer only if the stream ends. A line for each
+-- of them was written.
 pub record SumsFrames (from : Container) (frame_len : ℕ) (left left' has has' : Option (List ℕ))
     (planes : Bool) (count : ℕ) (sizes : Sizes) (before most found : ℕ) : Type 0 where
   pub frames : List Framed
@@ -43,7 +43,7 @@ pub record SumsFrames (from : Container) (frame_len : ℕ) (left left' has has' 
   pub ends : (found ≡ most) ⊎ IsAtEnd left'
   pub written : Appends has has' (checksum_lines planes count sizes before frames)
 
--- the same of the frames that the options ask for, after those that are passed over
+-- The skipped frames were read, and then the selected frames, each of which has a line.
 pub record SumsFrom (from : Container) (frame_len : ℕ) (left left' has has' : Option (List ℕ))
     (options : OptionWords) (count : ℕ) (sizes : Sizes) (found : ℕ) : Type 0 where
   pub start : Option (List ℕ)

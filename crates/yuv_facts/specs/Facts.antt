@@ -1,4 +1,4 @@
--- What `info` says of a stream, one line a fact.
+-- The properties of a stream that `info` prints, one in each line.
 use Rattle.std.specs.Prelude.{ℕ, ◌∷◌, ◌++◌, [], List, Option, Some, None, codes, decimal, flat_map, map}
 use Rattle.v_frame.specs.Prelude.{ChromaSubsampling, Yuv420, Yuv422, Yuv411, Yuv444, Monochrome}
 use Rattle.v_frame_y4m.specs.Ascii.{shown_byte}
@@ -45,7 +45,7 @@ ratio_fact name None = []
 ratio_fact name (Some ratio) =
     fact name (decimal ratio.numerator ++ (codes ":" ++ decimal ratio.denominator))
 
--- the bytes of a parameter `X`, those that are no printed ASCII as `?`
+-- The bytes of an extension, with `?` for each byte that is not printable ASCII.
 abbrev pub extension_fact : List ℕ → List ℕ
 extension_fact bytes = fact (codes "extension") (map shown_byte bytes)
 
@@ -55,8 +55,8 @@ format_facts header =
     ++ (fact (codes "format") (chroma_text (subsampling_of header.color))
     ++ fact (codes "bit depth") (decimal (depth_of header.color)))
 
--- where chroma is sited, the rate, the interlacing and the shape of a pixel, where the header says
--- them
+-- The position of chroma samples, the frame rate, the interlacing and the pixel aspect ratio, each
+-- if the header states it.
 abbrev pub stated_facts : StreamHeader → List ℕ
 stated_facts header =
     siting_fact (siting_of header.color)
@@ -67,7 +67,7 @@ stated_facts header =
 abbrev pub bytes_fact : List ℕ → ℕ → List ℕ
 bytes_fact name count = fact name (decimal count ++ codes " bytes")
 
--- how long the file is, where that is known
+-- The length of the file, if it is known.
 abbrev pub file_fact : Option ℕ → List ℕ
 file_fact None = []
 file_fact (Some len) = bytes_fact (codes "file size") len

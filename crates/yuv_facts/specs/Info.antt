@@ -1,4 +1,4 @@
--- What `info` reports of the frames.
+-- The report of `info` on the frames of a stream.
 use Rattle.std.specs.Prelude.{ℕ, ◌-◌, ◌^◌, ◌∷◌, ◌++◌, [], List, Option, codes, decimal}
 use Rattle.std.specs.Io.KnownBytes.{Appends}
 use Rattle.v_frame_y4m.specs.declared.header.StreamHeader.{StreamHeader}
@@ -8,11 +8,11 @@ use Rattle.v_frame_streams.specs.Prelude.{CountsFrames, StopsAtFrame, Unread}
 use Rattle.v_frame_streams.specs.declared.error.Problem.{Problem}
 use Rattle.v_frame_streams.specs.declared.stream.Container.{Container}
 
--- the line of a count
+-- The line with the number of frames.
 abbrev pub count_line : ℕ → List ℕ
 count_line frames = codes "frames: " ++ (decimal frames ++ (10 ∷ []))
 
--- all frames were counted, and their count was reported
+-- All frames were counted, and a report that begins with their number was written.
 pub record ReportsFrames (from : Container) (count : ℕ) (left left' has has' : Option (List ℕ))
     : Type 0 where
   pub found : ℕ
@@ -21,7 +21,8 @@ pub record ReportsFrames (from : Container) (count : ℕ) (left left' has has' :
   pub says : BeginsWith (count_line found) text
   pub written : Appends has has' text
 
--- the frames in front of the one that was not read were counted, and their count was reported
+-- The frames before the one that could not be read were counted, and a report that begins with
+-- their number was written.
 pub record ReportsWhole (from : Container) (count : ℕ) (start left : Unread) (before : ℕ)
     (has has' : Option (List ℕ)) (problem : Problem) : Type 0 where
   pub after : ℕ
@@ -30,14 +31,15 @@ pub record ReportsWhole (from : Container) (count : ℕ) (start left : Unread) (
   pub says : BeginsWith (count_line after) text
   pub written : Appends has has' text
 
--- the facts of the stream were reported first
+-- The properties of the stream were written, and then the report on its frames.
 pub record ReportsStream (from : Container) (header : StreamHeader) (count : ℕ) (len : Option ℕ)
     (left left' has has' : Option (List ℕ)) : Type 0 where
   pub mid : Option (List ℕ)
   pub facts : Appends has mid (stream_facts header count len)
   pub frames : ReportsFrames from count left left' mid has'
 
--- the same of a stream that breaks off
+-- The properties of a stream that breaks off were written, and then the report on the frames before
+-- the error.
 pub record ReportsBroken (from : Container) (header : StreamHeader) (count : ℕ) (len : Option ℕ)
     (start left : Unread) (before : ℕ) (has has' : Option (List ℕ)) (problem : Problem) : Type 0
   where

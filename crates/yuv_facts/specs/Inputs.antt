@@ -1,5 +1,5 @@
--- What a command reports of the file that it reads: a stream was opened as the option `--raw` says,
--- and what was written is of that stream.
+-- The reports on the file that a command reads. The stream was opened as the option `--raw`
+-- specifies, and the report is about this stream.
 use Rattle.std.specs.Prelude.{ℕ, ◌≡◌, ◌≢◌, ◌^◌, false, true, List, Option}
 use Rattle.std.specs.Borrow.{MutBor}
 use Rattle.std.specs.Io.KnownBytes.{Appends}
@@ -17,14 +17,14 @@ use Rattle.yuv_system.specs.Inputs.{OpensFile}
 use Rattle.yuv_system.specs.declared.input_file.InputFile.{InputFile}
 use Rattle.yuv_words.specs.declared.command.Call.{Call}
 
--- `has` and `has'` are what standard output had and has, `left` what the first file of the call had
--- left behind its header, and `rest` what it has left
+-- `has` and `has'` are the bytes of standard output before and after the command. `left` has the
+-- bytes of the first file after its header, and `rest` those that were not read.
 module _ {F I : Type 0} (files : F → Option (List ℕ)) (standard : I → Option (List ℕ))
     (call : Call) (input : Option I) (has has' : Option (List ℕ)) where
   abbrev pub Opens : Option (List ℕ) → Source (MutBor (InputFile F I)) → Type 0
   Opens left source = OpensFile files standard call.first.now input call.options.raw left source
 
-  -- the command `info`, where the length of the file may be known
+  -- The report of `info`. The length of the file may be known.
   pub record ReportsInput : Type 0 where
     pub left : Option (List ℕ)
     pub source : Source (MutBor (InputFile F I))
@@ -36,7 +36,7 @@ module _ {F I : Type 0} (files : F → Option (List ℕ)) (standard : I → Opti
     pub counted : call.options.header ≡ false → ReportsStream source.container source.header
         source.frame_len len left rest has has'
 
-  -- the command `sum`
+  -- The report of `sum`.
   pub record SumsInput : Type 0 where
     pub left : Option (List ℕ)
     pub source : Source (MutBor (InputFile F I))
@@ -46,7 +46,7 @@ module _ {F I : Type 0} (files : F → Option (List ℕ)) (standard : I → Opti
     pub sums : SumsFrom source.container source.frame_len left rest has has' call.options
         (pixel_bytes (depth_of source.header.color)) (sizes_in source.header) found
 
-  -- the command `stats`, in pixels of one byte for a depth of 8 and of two for others
+  -- The report of `stats`. Samples have one byte for a depth of 8 bits, and two bytes for others.
   pub record ReportsValuesOfInput : Type 0 where
     pub left : Option (List ℕ)
     pub source : Source (MutBor (InputFile F I))

@@ -1,4 +1,4 @@
-//! The command `info`: what a stream is, and how many frames it has.
+//! The command `info`: prints the properties of a stream and the number of its frames.
 ghost use Rattle.std.specs.Prelude.{◌≡◌, ◌≢◌, false, true, IfErr, IfOk, IsOk, OnOk};
 ghost use Rattle.std.specs.Io.KnownBytes.{Appends};
 ghost use Rattle.yuv_facts.specs.Facts.{stream_facts};
@@ -22,11 +22,12 @@ use yuv_system::{
 };
 use yuv_words::{Call, Options};
 
-/// Reports what a stream is. Where a frame can't be read, what is known so far is reported before the fault.
+/// Prints the properties of a stream and the number of its frames. If a frame can't be read, the results so far are printed
+/// before the error is returned.
 ///
 /// # Errors
 ///
-/// Where the stream can't be read, or the report can't be written.
+/// A [`Fault`] if the stream can't be read, or if the report can't be written.
 pub fn do_info<H, F, I, O, E>(
     system: &mut System<'_, H, I, O, E>,
     call: &Call<'_>,
@@ -59,7 +60,8 @@ where
     Ok(Status::Same)
 }
 
-/// Reports what is known of a stream in a file of this length, where that is known, and then how many frames it has.
+/// Writes the properties of a stream, and then the number of its frames. `len` is the length of the file in bytes, if it is
+/// known.
 fn report_stream<R: io::Read, W: io::Write, H: Clock, E: io::Write>(
     alloc: Global,
     source: &mut Source<R>,
@@ -86,8 +88,8 @@ fn report_stream<R: io::Read, W: io::Write, H: Clock, E: io::Write>(
     report_frames(alloc, source, options, out, progress, len)
 }
 
-/// Counts the frames of a stream in a file of this length, where that is known, and reports the count. With `--header` nothing
-/// is read or reported.
+/// Counts the frames of a stream, and writes their number. `len` is the length of the file in bytes, if it is known. With
+/// `--header`, nothing is read or written.
 fn report_frames<R: io::Read, W: io::Write, H: Clock, E: io::Write>(
     alloc: Global,
     source: &mut Source<R>,
@@ -120,7 +122,7 @@ fn report_frames<R: io::Read, W: io::Write, H: Clock, E: io::Write>(
     Ok(())
 }
 
-/// Returns how many frames were counted: those in front of the one that can't be read, where there is one.
+/// Returns the number of frames that were counted: all frames, or those before the frame that can't be read.
 fn frames_counted<R: io::Read>(counted: &Result<u64, StreamError>, source: &Source<R>) -> u64
     ensures all { IfOk counted.now (λ found. result ≡ found) }
     ensures whole { IfErr counted.now (λ _. result ≡ source.now.frames) }

@@ -1,5 +1,5 @@
-//! The commands of `yuv` that say what one stream is: `info` by its header, `sum` by checksums of its frames, and `stats` by what
-//! values its samples have.
+//! The commands of `yuv` that describe one stream: `info` prints the properties in its header, `sum` prints checksums of its
+//! frames, and `stats` prints statistics of its samples.
 #![tactic(auto)]
 
 mod info;

@@ -1,4 +1,4 @@
-//! What is said of a plane, of whose values it is known how often they occur.
+//! The statistics of a plane, calculated from the number of times that each value occurs.
 ghost use Rattle.std.specs.Prelude.{◌≡◌, ◌-◌, ◌^◌, ◌<◌, ◌≤◌, ℕ, if◌then◌else◌, length, min, slice_index, IfSome, IsNone, OnOk, string_bytes};
 ghost use Rattle.yuv_facts.specs.Statistics.{is_outside, most_at, nominal_at, nominal_range, outside_from, range_up_to, AppendsChroma, AppendsPlane, Describes, HasNoValue};
 
@@ -9,7 +9,7 @@ use v_frame_formats::Component;
 use v_frame_rgb::ColorRange;
 use yuv_reports::{SampleStatistics, push_statistics};
 
-/// The values that samples usually have, from `least` to `greatest`, and the greatest value of their bit depth, `most`.
+/// The values that samples nominally have, from `least` to `greatest`, and the greatest value of their bit depth, `most`.
 #[derive(Clone, Copy)]
 pub(crate) struct NominalRange {
     pub(crate) least: u16,
@@ -18,8 +18,8 @@ pub(crate) struct NominalRange {
 }
 
 impl NominalRange {
-    /// Returns the range of samples of a bit depth: all values of the depth in the full range. In the limited range the values that
-    /// stand for 16 to `top` of 8 bits, as ITU-R BT.601 and BT.709 have it.
+    /// Returns the nominal range of samples with the bit depth `depth`. Full range has all values of the depth. Limited range has
+    /// the values that correspond to 16 to `top` in 8 bits, as in ITU-R BT.601 and BT.709.
     pub(crate) fn new(range: ColorRange, top: u8, depth: u8) -> Self
         ensures { result ≡ nominal_range range top depth }
     {
@@ -38,7 +38,7 @@ impl NominalRange {
         }
     }
 
-    /// Returns the range that all values above the bit depth are outside of, and no other value.
+    /// Returns a range that contains exactly the values up to the greatest value of the bit depth.
     fn up_to_most(self) -> Self
         ensures { result ≡ range_up_to self.most }
     {
@@ -49,7 +49,8 @@ impl NominalRange {
         }
     }
 
-    /// Returns `count`, how often a value occurs, if the value is outside of the range and not above `most`, and otherwise 0.
+    /// Returns `count`, the number of times that `value` occurs, if the value is outside the range and not above `most`, and 0
+    /// otherwise.
     fn count_outside(self, value: usize, count: u64) -> u64
         ensures { result ≡ (if is_outside self value then count else 0) }
     {
@@ -73,14 +74,14 @@ fn most_of(depth: u8) -> u16
     u16::MAX >> 16u8.saturating_sub(depth)
 }
 
-/// Returns the value that stands at a depth for one of 8 bits.
+/// Returns the value of the bit depth `depth` that corresponds to a value of 8 bits.
 fn nominal(value: u8, depth: u8) -> u16
     ensures { result ≡ nominal_at depth value }
 {
     u16::from(value) << depth.saturating_sub(8).min(8)
 }
 
-/// Appends the line of a plane, where a value occurs.
+/// Appends the line of a plane, if any value occurs in it.
 pub(crate) fn push_plane(
     alloc: Global,
     text: &mut String,
@@ -97,7 +98,7 @@ pub(crate) fn push_plane(
     }
 }
 
-/// Appends the line of a chroma plane, where it is there.
+/// Appends the line of a chroma plane, if the frames have it.
 pub(crate) fn push_chroma_plane(
     alloc: Global,
     text: &mut String,
@@ -114,7 +115,7 @@ pub(crate) fn push_chroma_plane(
     }
 }
 
-/// Returns what is said of a plane with these counts. `None` where no value occurs.
+/// Returns the statistics of a plane with these counts, or `None` if no value occurs.
 fn described(plane: Component, counts: &[u64], range: NominalRange) -> Option<SampleStatistics>
     requires { length counts.now ≤ 2 ^ 16 }
     ensures said { IfSome result (Describes plane counts.now range) }
@@ -133,7 +134,7 @@ fn described(plane: Component, counts: &[u64], range: NominalRange) -> Option<Sa
     })
 }
 
-/// Returns the least value that occurs.
+/// Returns the least value that occurs, or `None` if none does.
 fn minimum(counts: &[u64]) -> Option<u16>
     requires { length counts.now ≤ 2 ^ 16 }
     ensures occurs { IfSome result (λ least. 0 < slice_index counts.now least) }
@@ -149,7 +150,7 @@ fn minimum(counts: &[u64]) -> Option<u16>
     None
 }
 
-/// Returns the greatest value that occurs.
+/// Returns the greatest value that occurs, or `None` if none does.
 fn maximum(counts: &[u64]) -> Option<u16>
     requires { length counts.now ≤ 2 ^ 16 }
     ensures occurs { IfSome result (λ greatest. 0 < slice_index counts.now greatest) }
@@ -165,7 +166,7 @@ fn maximum(counts: &[u64]) -> Option<u16>
     None
 }
 
-/// Returns the mean of the values. 0 where there is none.
+/// Returns the mean of the values, or 0 if there are none.
 fn mean(counts: &[u64]) -> f64 {
     let (mut sum, mut all) = (0u128, 0u64);
     for value in 0..counts.len() {
@@ -179,7 +180,7 @@ fn mean(counts: &[u64]) -> f64 {
     quotient(sum, all)
 }
 
-/// Returns how many values are outside of a range and not above its `most`. It is `u64::MAX` where there are more.
+/// Returns the number of samples that are outside `range` and not above its `most`, or `u64::MAX` if there are more.
 fn outside(counts: &[u64], range: NominalRange) -> u64
     ensures { result ≡ min (outside_from range 0 counts.now) (2 ^ 64 - 1) }
 {
@@ -190,7 +191,7 @@ fn outside(counts: &[u64], range: NominalRange) -> u64
     outside
 }
 
-/// Returns a sum over a count, whose whole part is exact.
+/// Returns a sum divided by a count. The integer part is exact.
 fn quotient(sum: u128, count: u64) -> f64
     requires { 0 < count }
 {

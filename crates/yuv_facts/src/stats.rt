@@ -1,4 +1,4 @@
-//! The command `stats`: what values the samples of a stream have.
+//! The command `stats`: prints statistics of the samples of a stream.
 ghost use Rattle.std.specs.Prelude.{◌≡◌, ◌≢◌, ◌<◌, ◌^◌, ◌++◌, is_some, option_map, string_bytes, IfOk, OnOk};
 ghost use Rattle.v_frame.specs.Prelude.{one_byte, table_of, tables_of, two_bytes};
 ghost use Rattle.v_frame_y4m.specs.Color.{depth_of};
@@ -30,11 +30,11 @@ use yuv_system::{
 };
 use yuv_words::{Call, Options};
 
-/// Reports what values the samples of each plane have, over all frames.
+/// Prints statistics of the samples of each plane over all frames, or their histogram.
 ///
 /// # Errors
 ///
-/// Where the stream can't be read, or the report can't be written.
+/// A [`Fault`] if the stream can't be read, or if the report can't be written.
 pub fn do_stats<H, F, I, O, E>(
     system: &mut System<'_, H, I, O, E>,
     call: &Call<'_>,
@@ -63,8 +63,8 @@ where
     Ok(Status::Same)
 }
 
-/// Writes what values the samples of a stream have, and returns of how many frames. If the stream breaks off, the values of the frames
-/// before are written, and then the error is returned.
+/// Writes statistics of the samples of a stream, and returns the number of frames that they cover. If a frame can't be read, the
+/// statistics of the frames before it are written, and then the error is returned.
 fn report_values<R: io::Read, W: io::Write, H: Clock, E: io::Write>(
     alloc: Global,
     source: &mut Source<R>,
@@ -92,7 +92,7 @@ fn report_values<R: io::Read, W: io::Write, H: Clock, E: io::Write>(
     }
 }
 
-/// The same of pixels of a type.
+/// Writes the statistics of a stream whose samples have the type `T`. See [`report_values`].
 fn report_pixels<T: CountedPixel, R: io::Read, W: io::Write, H: Clock, E: io::Write>(
     alloc: Global,
     source: &mut Source<R>,
@@ -116,7 +116,7 @@ fn report_pixels<T: CountedPixel, R: io::Read, W: io::Write, H: Clock, E: io::Wr
     counted
 }
 
-/// How often each value occurs in each plane.
+/// The number of times that each value occurs in each plane.
 #[derive(Drop)]
 struct Counts {
     y: ValueCounts,
@@ -124,8 +124,8 @@ struct Counts {
     v: Option<ValueCounts>,
 }
 
-/// Counts the values of the frames that are asked for, and these frames. If the stream breaks off, returns the values of the frames
-/// before with the error.
+/// Counts the values in the selected frames, and these frames. If a frame can't be read, returns the error with the counts of the
+/// frames before it.
 fn count_values<T: CountedPixel, R: io::Read, P: Progress>(
     alloc: Global,
     source: &mut Source<R>,
@@ -148,7 +148,7 @@ fn count_values<T: CountedPixel, R: io::Read, P: Progress>(
     Ok((counts, counted))
 }
 
-/// Adds the values of so many frames to counts of nothing, or those of all that are left where they are fewer.
+/// Adds the values of up to `most` frames to `counts`, which are 0 before.
 fn count_frames<T: CountedPixel, R: io::Read, P: Progress>(
     alloc: Global,
     source: &mut Source<R>,
@@ -178,7 +178,7 @@ fn count_frames<T: CountedPixel, R: io::Read, P: Progress>(
 }
 
 impl Counts {
-    /// Counts nothing yet.
+    /// Returns counts of 0.
     fn new(alloc: Global, has_chroma: bool) -> Result<Self, AllocError>
         ensures { IfOk result (CountsNothing has_chroma) }
     {
@@ -210,7 +210,7 @@ impl Counts {
     }
 }
 
-/// Adds the values of a chroma plane, where it is there.
+/// Adds the values of a chroma plane, if the frame has it.
 fn add_chroma<T: CountedPixel>(
     alloc: Global,
     plane: &Option<Plane<T>>,
@@ -225,7 +225,7 @@ fn add_chroma<T: CountedPixel>(
     }
 }
 
-/// Returns what is asked for: a histogram, or a line for each plane.
+/// Returns the requested report: a histogram, or a line for each plane.
 fn report_text(
     alloc: Global,
     counts: &Counts,
@@ -241,7 +241,7 @@ fn report_text(
     statistics_text(alloc, counts, range, depth)
 }
 
-/// Returns a row for each value that occurs.
+/// Returns the histogram: a row for each value that occurs.
 fn histogram_text(alloc: Global, counts: &Counts) -> Result<String, AllocError>
     ensures { IfOk result (λ text. string_bytes text ≡ histogram_said counts.now) }
 {
@@ -253,7 +253,7 @@ fn histogram_text(alloc: Global, counts: &Counts) -> Result<String, AllocError>
     Ok(text)
 }
 
-/// Appends the rows of a chroma plane, where it is there.
+/// Appends the rows of a chroma plane, if the frames have it.
 fn push_chroma(
     text: &mut String,
     plane: Component,
@@ -268,7 +268,7 @@ fn push_chroma(
     }
 }
 
-/// Returns a line for each plane.
+/// Returns the statistics: a line for each plane.
 fn statistics_text(
     alloc: Global,
     counts: &Counts,

@@ -1,4 +1,4 @@
-//! The command `sum`: a checksum of each frame, or of each plane.
+//! The command `sum`: prints a checksum of each frame or of each plane.
 ghost use Rattle.std.specs.Prelude.{◌≡◌, ◌+◌, ◌-◌, ◌^◌, ◌<◌, length, min, IfOk, OnOk};
 ghost use Rattle.std.specs.Io.KnownBytes.{Appends};
 ghost use Rattle.v_frame.specs.Prelude.{tables_of};
@@ -27,11 +27,11 @@ use yuv_system::{
 };
 use yuv_words::{Call, Options};
 
-/// Reports a checksum of each frame.
+/// Prints a checksum of each frame, or of each of its planes.
 ///
 /// # Errors
 ///
-/// Where the stream can't be read or has no planes to sum, or the report can't be written.
+/// A [`Fault`] if the stream can't be read or has no planes with checksums, or if the report can't be written.
 pub fn do_sum<H, F, I, O, E>(
     system: &mut System<'_, H, I, O, E>,
     call: &Call<'_>,
@@ -64,7 +64,7 @@ where
     Ok(Status::Same)
 }
 
-/// Writes a line for each frame of a stream that is asked for, and counts these.
+/// Writes a line for each selected frame of a stream, and returns the number of these frames.
 fn sum_stream<R: io::Read, W: io::Write, P: Progress>(
     alloc: Global,
     source: &mut Source<R>,
@@ -84,7 +84,7 @@ fn sum_stream<R: io::Read, W: io::Write, P: Progress>(
     }
 }
 
-/// The same of pixels of a type.
+/// Writes the lines of a stream whose samples have the type `T`, and returns the number of frames. See [`sum_stream`].
 fn sum_as<T: Pixel, R: io::Read, W: io::Write, P: Progress>(
     alloc: Global,
     source: &mut Source<R>,
@@ -108,16 +108,16 @@ fn sum_as<T: Pixel, R: io::Read, W: io::Write, P: Progress>(
     Ok(sum_frames(alloc, source, &mut picture, lines, most, out, progress)?)
 }
 
-/// How the lines of frames are made.
+/// The contents of the lines.
 #[derive(Clone, Copy)]
 struct Lines {
-    /// Whether each plane has a checksum.
+    /// Whether each plane has a separate checksum.
     planes: bool,
-    /// How many frames stand before the first one.
+    /// The number of frames before the first selected frame.
     before: u64,
 }
 
-/// Writes a line for each of so many frames, or of all that are left where they are fewer.
+/// Writes a line for each of the next `most` frames, or of the remaining frames if there are fewer, and returns their number.
 fn sum_frames<T: Pixel, R: io::Read, W: io::Write, P: Progress>(
     alloc: Global,
     source: &mut Source<R>,
@@ -146,14 +146,14 @@ fn sum_frames<T: Pixel, R: io::Read, W: io::Write, P: Progress>(
     Ok(most)
 }
 
-/// Returns the number of a frame, before which so many stand and then so many of those that are taken.
+/// Returns the number of a frame, counted from 1: `before` frames are skipped, and `count` of the selected frames precede it.
 fn number_of(before: u64, count: u64) -> u64
     ensures { result ≡ min (before + count + 1) (2 ^ 64 - 1) }
 {
     before.saturating_add(count).saturating_add(1)
 }
 
-/// Writes the line of a frame of this number, whose planar bytes are these. It is put together in `text`.
+/// Writes the line of the frame `number`, whose samples in planar order are `bytes`. The line is composed in `text`.
 fn write_sums<T: Pixel, W: io::Write>(
     text: &mut String,
     number: u64,
@@ -174,7 +174,7 @@ fn write_sums<T: Pixel, W: io::Write>(
     }
 }
 
-/// Returns the checksums of a frame, whose planar bytes are these.
+/// Returns the checksums of a frame, whose samples in planar order are `bytes`.
 fn checksums<T: Pixel>(frame: &Frame<T>, bytes: &[u8], planes: bool) -> Checksums
     requires { length bytes.now ≡ byte_count T.form.size (sizes_of (tables_of frame.now)) }
     ensures { result ≡ checksums_of planes T.form.size (sizes_of (tables_of frame.now)) bytes.now }

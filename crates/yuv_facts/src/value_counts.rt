@@ -1,10 +1,10 @@
-//! How often each value of 16 bits occurs.
+//! The number of times that each value of 16 bits occurs.
 ghost use Rattle.std.specs.Prelude.{◌≡◌, ◌^◌, vec_len};
 
 use crate::values::add_counts;
 use std::alloc::{AllocError, Global};
 
-/// How often each value of 16 bits occurs. A count stays at `u64::MAX`.
+/// The number of times that each value of 16 bits occurs, up to `u64::MAX`.
 #[derive(Drop)]
 pub(crate) struct ValueCounts {
     counts: Vec<u64>,
@@ -15,7 +15,11 @@ impl ValueCounts {
     ghost use Rattle.std.specs.Prelude.{◌≡◌, ◌^◌, length, IfOk};
     ghost use Rattle.yuv_facts.specs.Values.{AddsTable, AreZero};
 
-    /// Counts nothing yet.
+    /// Returns counts of 0.
+    ///
+    /// # Errors
+    ///
+    /// [`AllocError`] if there is not enough memory.
     pub(crate) fn new(alloc: Global) -> Result<Self, AllocError>
         ensures { IfOk result (λ found. AreZero found.counts.items) }
     {
@@ -24,14 +28,14 @@ impl ValueCounts {
         Ok(ValueCounts { counts })
     }
 
-    /// Adds the counts of the first values.
+    /// Adds the counts in `table`, which has those of the values from 0 on.
     pub(crate) fn add(&mut self, table: &[u64])
         ensures { AddsTable table.now self.old.counts.items self.new.counts.items }
     {
         add_counts(self.counts.as_mut_slice(), table);
     }
 
-    /// Returns how often each value occurs, from 0.
+    /// Returns the counts of all values, beginning with 0.
     pub(crate) fn counts(&self) -> &[u64]
         ensures value { result.now ≡ self.now.counts.items }
         ensures size { length result.now ≡ 2 ^ 16 }

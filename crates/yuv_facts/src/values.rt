@@ -1,4 +1,4 @@
-//! How often each value occurs in a plane, over the frames of a stream.
+//! The number of times that each value occurs in a plane over all frames of a stream.
 ghost use Rattle.std.specs.Prelude.{◌^◌, OnOk};
 ghost use Rattle.v_frame.specs.Prelude.{table_of};
 ghost use Rattle.yuv_facts.specs.Values.{AddsTable, CountsTable};
@@ -9,9 +9,13 @@ use v_frame::pixel::Pixel;
 use v_frame::plane::PlaneRef;
 use v_frame_statistics::{histogram, histogram_of_depth};
 
-/// A type of samples whose values are counted.
+/// A type of samples whose values can be counted.
 pub(crate) trait CountedPixel: Pixel {
-    /// Adds how often each value occurs among the visible pixels of a plane.
+    /// Adds the number of times that each value occurs among the visible pixels of a plane.
+    ///
+    /// # Errors
+    ///
+    /// [`AllocError`] if there is not enough memory.
     fn add_counts(
         alloc: Global,
         plane: &PlaneRef<'_, Self>,
@@ -39,14 +43,14 @@ impl CountedPixel for u16 {
         plane: &PlaneRef<'_, u16>,
         counts: &mut ValueCounts,
     ) -> Result<(), AllocError> {
-        // All 16 bits, so that a value above the depth of the stream is counted too.
+        // All 16 bits are counted, including values above the bit depth of the stream.
         let table = histogram_of_depth(alloc, plane, 16)?;
         counts.add(table.as_slice());
         Ok(())
     }
 }
 
-/// Adds the counts of the first values. A count stays at `u64::MAX`.
+/// Adds the counts in `table`, which has those of the values from 0 on. Each count is limited to `u64::MAX`.
 pub(crate) fn add_counts(counts: &mut [u64], table: &[u64])
     ensures { AddsTable table.now counts.old counts.new }
 {

@@ -1,24 +1,29 @@
-//! Where the name of a target leads.
+//! Resolves the name of a target.
 
 use std::fs;
 use std::io::{self, ErrorKind};
 use std::path::PathBuf;
 use std::rt::Files;
 
-/// How many symbolic links may lead from a name to its file, as for the system.
+/// The largest number of symbolic links in a name, which is also the limit of Linux.
 const MOST_LINKS: u32 = 40;
 
-/// Where a name leads.
+/// The result of resolving a name.
 #[derive(Drop)]
 pub(crate) enum Destination {
-    /// To what a process has open, as `/dev/fd/3` does.
+    /// A file that a process has open, as `/dev/fd/3`.
     OpenFile,
-    /// To this name behind all links, whether there is a file or not.
+    /// The name after all links are followed. A file with this name may or may not exist.
     Name(String),
 }
 
-/// Returns where a name leads through symbolic links. What the system links to a file that a process has open is not followed:
-/// who has it open goes on with that very file, whatever names it has.
+/// Follows the symbolic links of a name. The system's links to open files, as `/dev/fd/3`, are not followed: a process that has a
+/// file open continues to use it, even if its name is given to another file.
+///
+/// # Errors
+///
+/// An error of the kind [`ErrorKind::FilesystemLoop`] if there are more than 40 links, and the error of the allocator if there is
+/// not enough memory.
 pub(crate) fn resolve_links<H: Files + AllocGlobal>(rt: &H, name: &str) -> io::Result<Destination> {
     let mut path = PathBuf::from_str(rt.alloc(), name)?;
     for _ in 0..MOST_LINKS {
@@ -27,18 +32,19 @@ pub(crate) fn resolve_links<H: Files + AllocGlobal>(rt: &H, name: &str) -> io::R
         }
         match fs::read_link(rt, path.as_path()) {
             Ok(link) => {
-                // The link is reported from the folder that it is in, or from the root.
+                // A link is relative to the folder that contains it, or absolute.
                 path.pop();
                 path.push(link.as_path())?;
             }
-            // It is no link, or there is nothing.
+            // The path is not a link, or does not exist.
             Err(_) => return Ok(Destination::Name(path.into_string())),
         }
     }
     Err(io::Error::from(ErrorKind::FilesystemLoop))
 }
 
-/// Returns whether a name is one that the system has for what a process has open: its folder, behind all links, is such a one.
+/// Returns whether a name is a link to an open file: whether the folder that contains it, after all links are followed, is one in
+/// which the system lists open files.
 fn is_open_file<H: Files + AllocGlobal>(rt: &H, name: &str) -> io::Result<bool> {
     let mut folder = PathBuf::from_str(rt.alloc(), name)?;
     folder.pop();
@@ -52,8 +58,8 @@ fn is_open_file<H: Files + AllocGlobal>(rt: &H, name: &str) -> io::Result<bool> 
     }
 }
 
-/// Returns whether a folder, by its name behind all links, is one of what a process has open: `/proc/7/fd`, `/proc/7/task/8/fd`,
-/// or `/dev/fd` where this is no link.
+/// Returns whether the system lists open files in a folder, given by its name after all links are followed: `/proc/7/fd`,
+/// `/proc/7/task/8/fd`, or `/dev/fd` if it is not a link.
 fn has_open_files(folder: &str) -> bool {
     folder == "/dev/fd" || folder.starts_with("/proc/") && folder.ends_with("/fd")
 }

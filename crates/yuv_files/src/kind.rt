@@ -1,15 +1,15 @@
-//! Kinds of files, and which targets a command may write.
+//! Kinds of files, and the targets that a command may write.
 ghost use Rattle.std.specs.Prelude.{◌≡◌, ◌⊎◌, false, IfErr, IsTrue, OnOk};
 ghost use Rattle.yuv_files.specs.Targets.{is_video as writes_video, small_letter_of, MayBeWritten, StopsWriting};
 
 use std::alloc::{AllocError, Global};
 
-/// A kind of file.
+/// A kind of file, by its contents.
 #[derive(Debug, Clone, Copy, PartialEq, Eq)]
 pub enum FileKind {
     /// A YUV4MPEG2 stream.
     Y4m,
-    /// Headerless raw video.
+    /// Headerless video.
     Raw,
     /// A PNG picture.
     Png,
@@ -21,37 +21,37 @@ pub enum FileKind {
     Container,
 }
 
-/// What is known of a target before it is written.
+/// The properties of a target before it is written.
 #[derive(Debug, Clone, Copy, PartialEq, Eq)]
 pub struct TargetFacts {
-    /// The kind of file that the extension of its name stands for. `None` for any other extension, and for none.
+    /// The kind of file that the extension of the name indicates, or `None` if the extension is missing or unknown.
     pub named: Option<FileKind>,
-    /// Whether it is a file that begins as a YUV4MPEG2 stream does.
+    /// Whether the target is a file that begins as a YUV4MPEG2 stream does.
     pub is_stream: bool,
-    /// Whether it is one of the files that the command reads.
+    /// Whether the target is one of the files that the command reads.
     pub is_input: bool,
 }
 
-/// Why a target is not written.
+/// The reason why a target is rejected.
 #[derive(Debug, Clone, Copy, PartialEq, Eq)]
 pub enum TargetError {
     /// The command reads the target.
     Input,
     /// The target is a YUV4MPEG2 stream, and the command writes a picture.
     Stream,
-    /// The extension of the target's name stands for this kind of file, and the command writes another kind.
+    /// The extension of the target's name indicates this kind of file, and the command writes another kind.
     OtherKind(FileKind),
 }
 
 impl FileKind {
-    /// Returns whether a file of this kind that `yuv` writes has frames of video.
+    /// Returns whether files of this kind, as `yuv` writes them, contain video frames.
     fn is_video(self) -> bool
         ensures { result ≡ writes_video self }
     {
         matches!(self, FileKind::Y4m | FileKind::Raw)
     }
 
-    /// Returns the kind in words, with its article.
+    /// Returns the kind of file as a phrase with an article.
     pub fn text(self) -> &'static str {
         match self {
             FileKind::Y4m => "a YUV4MPEG2 stream",
@@ -64,12 +64,14 @@ impl FileKind {
     }
 }
 
-/// Tests whether a command that writes a file of the kind `written` may write a target. With `is_forced` it may write any target.
+/// Tests whether a command that writes a file of the kind `written` may write `target`. If `is_forced` is true, it may write any
+/// target.
 ///
 /// # Errors
 ///
 /// [`TargetError::Input`] if the command reads the target, otherwise [`TargetError::Stream`] if the target is a stream and the
-/// command writes a picture, and otherwise [`TargetError::OtherKind`] if its name stands for another kind of file.
+/// command writes a picture, and otherwise [`TargetError::OtherKind`] if the extension of its name indicates another kind of
+/// file.
 pub fn check_target(
     written: FileKind,
     target: &TargetFacts,
@@ -94,7 +96,8 @@ pub fn check_target(
     }
 }
 
-/// Returns the kind of file that the extension of a name stands for, in capital or small letters.
+/// Returns the kind of file that the extension of a name indicates, or `None` if the extension is missing or unknown. Upper case
+/// and lower case are the same.
 ///
 /// # Errors
 ///
@@ -109,7 +112,7 @@ pub fn kind_of_name(alloc: Global, name: &str) -> Result<Option<FileKind>, Alloc
     }
 }
 
-/// Returns a text with `a` to `z` in place of `A` to `Z`.
+/// Returns a text with each of the letters `A` to `Z` in lower case.
 fn in_small_letters(alloc: Global, text: &str) -> Result<String, AllocError> {
     let mut small = String::new(alloc);
     for letter in text.chars() {
@@ -119,7 +122,7 @@ fn in_small_letters(alloc: Global, text: &str) -> Result<String, AllocError> {
     Ok(small)
 }
 
-/// Returns `a` to `z` for `A` to `Z`, and any other letter itself.
+/// Returns a letter in lower case if it is one of `A` to `Z`, and unchanged otherwise.
 fn small_letter(letter: char) -> char
     ensures { result ≡ small_letter_of letter }
 {
@@ -132,7 +135,7 @@ fn small_letter(letter: char) -> char
     }
 }
 
-/// Returns the kind of file that an extension in small letters stands for.
+/// Returns the kind of file that an extension in lower case indicates, or `None` if it is unknown.
 fn kind_of_extension(extension: &str) -> Option<FileKind> {
     match extension {
         "y4m" => Some(FileKind::Y4m),

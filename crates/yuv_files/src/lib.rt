@@ -1,5 +1,5 @@
-//! The files that `yuv` writes, and what it says of them: a target behind links is made whole beside its name and takes its place
-//! when all is written; messages in which no character of a name controls a terminal.
+//! The output files and messages of `yuv`. An output file is written under a temporary name beside its target, and replaces the
+//! target when it is complete. Messages escape control characters in file names, so that no name can control a terminal.
 #![tactic(auto)]
 
 mod destination;

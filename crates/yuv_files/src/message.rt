@@ -1,11 +1,12 @@
-//! Messages on standard error, in which no character of a name controls a terminal.
+//! Messages on standard error, in which control characters of file names are escaped.
 ghost use Rattle.std.specs.Prelude.{◌↔◌, IsTrue};
 ghost use Rattle.yuv_files.specs.Messages.{IsControl};
 
 use std::fmt::{self, Write};
 use std::io;
 
-/// Writes a line that begins with the program's name. Nobody is told where it can't be written. It takes no memory.
+/// Writes a line that begins with the name of the program, followed by the name of a file if there is one, and by `what`.
+/// Allocates no memory. If writing fails, the error is ignored.
 pub fn write_message<E: io::Write, D: fmt::Display>(out: &mut E, name: Option<&str>, what: &D) {
     let mut escaping = Escaping { out };
     let _ = match name {
@@ -15,7 +16,7 @@ pub fn write_message<E: io::Write, D: fmt::Display>(out: &mut E, name: Option<&s
     let _ = escaping.out.write_all(b"\n");
 }
 
-/// Returns the name that a message shows for that of a file that is read.
+/// Returns the name of an input file as messages show it.
 pub fn shown_name(name: &str) -> &str {
     match name {
         "-" => "standard input",
@@ -23,10 +24,10 @@ pub fn shown_name(name: &str) -> &str {
     }
 }
 
-/// Says that a header line is not strict, and which strict one it is read as.
+/// A warning that a header line is not strictly valid, and the valid line as which it is read.
 #[derive(Drop)]
 pub struct LaxHeader<'a> {
-    /// The strict line.
+    /// The valid line.
     pub line: &'a [u8],
 }
 
@@ -40,7 +41,7 @@ impl fmt::Display for LaxHeader<'_> {
     }
 }
 
-/// A writer of texts with a number in place of each control character.
+/// A writer that replaces each control character with its number.
 #[derive(Drop)]
 struct Escaping<'a, E> {
     out: &'a mut E,
@@ -59,7 +60,7 @@ impl<E: io::Write> Write for Escaping<'_, E> {
 }
 
 impl<E: io::Write> Escaping<'_, E> {
-    /// Writes a character, or its number.
+    /// Writes a character, or the number of a control character.
     fn write_letter(&mut self, letter: char) -> fmt::Result {
         let code = u32::from(letter);
         if is_control(letter) {
@@ -71,7 +72,7 @@ impl<E: io::Write> Escaping<'_, E> {
     }
 }
 
-/// Returns whether a write was done.
+/// Returns the result of a write without the cause of an error.
 fn done(written: io::Result<()>) -> fmt::Result {
     match written {
         Ok(()) => Ok(()),
@@ -79,7 +80,7 @@ fn done(written: io::Result<()>) -> fmt::Result {
     }
 }
 
-/// Returns whether a character is one of C0, DEL or C1 of ISO/IEC 6429.
+/// Returns whether a character is a control character of ISO/IEC 6429: one of C0, DEL or C1.
 fn is_control(letter: char) -> bool
     ensures { IsTrue result ↔ IsControl letter }
 {

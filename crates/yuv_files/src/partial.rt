@@ -1,4 +1,4 @@
-//! New files beside targets, which replace them when they are whole.
+//! Temporary files beside targets, which replace the targets when they are complete.
 
 use crate::same_file::{is_any_read, is_one_node};
 use crate::system_file::{Holder, SystemFile};
@@ -8,38 +8,44 @@ use std::io::{self, ErrorKind};
 use std::os::unix::fs::{MetadataExt, OpenOptionsExt, PermissionsExt};
 use std::rt::Files;
 
-/// How many names are tried for the file beside a target.
+/// The number of names that are tried for the temporary file of a target.
 const MOST_NAMES: u32 = 100;
 
-/// The most bytes of a name that is cut, so that the longest ending has room.
+/// The greatest length in bytes of a shortened name, to which every ending can be added.
 const LONGEST_STEM: usize = 245;
 
-/// The most bytes that the system takes as a name.
+/// The greatest length in bytes of a file name.
 const LONGEST_NAME: usize = 255;
 
-/// Who may read, write and run a file.
+/// The permission bits of a mode: read, write and execute for owner, group and others.
 const ACCESS_BITS: u32 = 0o777;
 
-/// These, whether it runs as its owner or its group, and the bit that marks what is not whole.
+/// The permission bits, the set-user-ID and set-group-ID bits, and the bit that marks incomplete files.
 pub(crate) const MODE_BITS: u32 = 0o7777;
 
-/// What marks a file that is not whole. The system has no use for this bit of a file.
+/// The bit of a mode that marks an incomplete file. The system does not use this bit for regular files.
 const UNFINISHED: u32 = 0o1000;
 
-/// A new file beside a target.
+/// A temporary file beside a target.
 #[derive(Drop)]
 pub(crate) struct PartialFile<F> {
     pub(crate) file: F,
-    /// Its name.
+    /// The name of the temporary file.
     pub(crate) name: String,
-    /// The mode that the system gave it.
+    /// The mode with which the system created it.
     pub(crate) mode: u32,
 }
 
 impl<F: OpenFile + SystemFile + Drop> PartialFile<F> {
-    /// Creates a file beside a target: with the target's name and an ending, and a number where another run has such a file, where it
-    /// is nothing that a run left, or one of the files that are read. It is marked as not whole. Until it is whole nobody may do
-    /// more with it than a mode says, where one is given.
+    /// Creates a temporary file beside `target`. Its name is the name of the target with the ending `.partial`. If a file with
+    /// this name exists, it is replaced if an interrupted run left it behind. Otherwise, and if it is one of the files `inputs`,
+    /// a number is added to the name. The new file is marked as incomplete, and has at most the permissions of `wanted` if it is
+    /// given.
+    ///
+    /// # Errors
+    ///
+    /// The error of the system if the file can't be created, and an error of the kind [`ErrorKind::AlreadyExists`] if all names
+    /// are taken.
     pub(crate) fn create<H: Files<File = F> + AllocGlobal>(
         rt: &H,
         target: &str,
@@ -62,11 +68,15 @@ impl<F: OpenFile + SystemFile + Drop> PartialFile<F> {
     }
 }
 
-/// Says who may do what with a file, which is whole then.
+/// Sets the mode of a complete file, which removes the mark of incomplete files.
+///
+/// # Errors
+///
+/// The error of the system, unless the file has the wanted mode anyway.
 pub(crate) fn finish<F: OpenFile>(file: &F, mode: u32) -> io::Result<()> {
     match file.set_permissions(Permissions::from_mode(mode)) {
         Ok(()) => Ok(()),
-        // Where modes can't be changed, as on disks that keep none, it may have this one.
+        // The file system may not support modes. The error is ignored if the file has the wanted mode anyway.
         Err(error) => match file.metadata() {
             Ok(found) if found.mode() & MODE_BITS == mode => Ok(()),
             _ => Err(error),
@@ -74,7 +84,8 @@ pub(crate) fn finish<F: OpenFile>(file: &F, mode: u32) -> io::Result<()> {
     }
 }
 
-/// Returns the name of a file beside a target, by its number. The system has a longest name, so a longer one is cut.
+/// Returns the name of the temporary file with this number. The name of the target is shortened if the result would be longer
+/// than the system allows.
 fn partial_name(alloc: Global, target: &str, number: u32) -> Result<String, AllocError> {
     let ending = if number == 0 {
         format!(in alloc; ".partial")?
@@ -97,7 +108,7 @@ fn partial_name(alloc: Global, target: &str, number: u32) -> Result<String, Allo
     }
 }
 
-/// Returns as many characters of a name as any ending leaves room for.
+/// Returns the beginning of a name, as long as any ending can be added to it.
 fn beginning(alloc: Global, name: &str) -> Result<String, AllocError> {
     let mut stem = String::new(alloc);
     for letter in name.chars() {
@@ -111,8 +122,8 @@ fn beginning(alloc: Global, name: &str) -> Result<String, AllocError> {
     Ok(stem)
 }
 
-/// Creates a file where there is none of this name, holds it, and marks it as not whole. Returns it with the mode that it had
-/// before; `None` where another process holds it, which has removed it then.
+/// Creates a file if no file has this name, locks it, and marks it as incomplete. Returns the file and the mode with which it was
+/// created, or `None` if another process locked it first. The file is then removed.
 fn create_held<H: Files>(
     rt: &H,
     name: &str,
@@ -124,7 +135,7 @@ where
     let mut options = OpenOptions::new();
     options.write(true).create_new(true);
     if let Some(wanted) = wanted {
-        // Who opens it before its mode is said goes on with it.
+        // A process that opens the file now keeps its access after the mode is set.
         options.mode(wanted & ACCESS_BITS);
     }
     let file = options.open(rt, name)?;
@@ -136,15 +147,16 @@ where
             fs::remove_file(rt, name)?;
             return Ok(None);
         }
-        // Another run could not see that this one is at work.
+        // Without locks, another run could not see that this one is writing the file, so the file is not marked.
         Holder::Unknown => 0,
     };
-    // Some disks keep no modes.
+    // Some file systems do not support modes, so an error is ignored.
     let _ = file.set_permissions(Permissions::from_mode(access | mark));
     Ok(Some((file, mode)))
 }
 
-/// Creates a file anew where a run that was ended has left it. `None` where it is another file, one that is read, or a run holds it.
+/// Replaces the incomplete file that an interrupted run left behind. Returns `None` if the name belongs to another file, to one
+/// of the files `inputs`, or to a file that another process has locked.
 fn take_over<H: Files>(
     rt: &H,
     name: &str,
@@ -168,7 +180,7 @@ where
         return Ok(None);
     }
     fs::remove_file(rt, name)?;
-    // It is held until there is a new one, so that nobody else takes it over.
+    // The old file stays locked until the new one exists, so that no other run takes it over.
     let created = create_held(rt, name, wanted);
     drop(left);
     match created {
@@ -177,7 +189,7 @@ where
     }
 }
 
-/// Returns whether a file that is held is one that a run left, and still has this name.
+/// Returns whether a locked file is an incomplete file that still has this name.
 fn has_name<H: Files>(rt: &H, left: &H::File, name: &str) -> bool {
     let (Ok(held), Ok(found)) = (left.metadata(), fs::symlink_metadata(rt, name)) else {
         return false;
@@ -185,12 +197,16 @@ fn has_name<H: Files>(rt: &H, left: &H::File, name: &str) -> bool {
     is_unfinished(&held) && is_one_node(&held, &found)
 }
 
-/// Returns whether a file has the mark of one that is not whole.
+/// Returns whether a file is marked as incomplete.
 fn is_unfinished(found: &Metadata) -> bool {
     found.is_file() && found.mode() & UNFINISHED != 0
 }
 
-/// Opens a file for writing, and changes nothing.
+/// Opens a file for writing, without changing it.
+///
+/// # Errors
+///
+/// The error of the system.
 pub(crate) fn open_for_writing<H: Files>(rt: &H, name: &str) -> io::Result<H::File> {
     let mut options = OpenOptions::new();
     options.write(true);

@@ -1,9 +1,10 @@
-//! Errors of the system, as C programs word them.
+//! Errors that the system reports, with the texts of the C library.
 
 use std::fmt;
 use std::io::ErrorKind;
 
-/// An error that the system reported. It is displayed in the words of `strerror`, as `No such file or directory`.
+/// An error that the system reported. It is displayed as the text that `strerror` has for it, for example `No such file or
+/// directory`.
 #[derive(Clone, Copy, Drop)]
 pub struct SystemError {
     /// The kind of the error.
@@ -19,8 +20,8 @@ impl fmt::Display for SystemError {
     }
 }
 
-/// Returns the words of `strerror` for a kind of error. Returns `None` for a kind that stands for several errors of the system, or that
-/// files do not have.
+/// Returns the text of `strerror` for a kind of error, or `None` if the kind stands for several errors of the system or does not
+/// occur with files.
 fn text_of(kind: ErrorKind) -> Option<&'static str> {
     match kind {
         ErrorKind::NotFound => Some("No such file or directory"),

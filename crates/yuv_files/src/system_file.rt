@@ -1,30 +1,30 @@
-//! What a file of the system can do beside being read and written.
+//! Operations on files of the system other than reading and writing.
 
 use std::fs::{File, TryLockError};
 use std::io;
 use std::os::unix::fs::fchown;
 
-/// Who has a file for itself.
+/// The process that has locked a file.
 #[derive(Clone, Copy, PartialEq, Eq)]
 pub enum Holder {
     /// This process, until the file is closed or the process ends.
     Us,
     /// Another process.
     Another,
-    /// Nobody can say: the file's system keeps no locks.
+    /// This is unknown, because the file system does not support locks.
     Unknown,
 }
 
-/// What a file of the system can do beside being read and written.
+/// Operations on files of the system other than reading and writing.
 pub trait SystemFile {
-    /// Takes the file for this process alone, where no other one has it.
+    /// Locks the file for this process, unless another process has locked it. Returns the process that has locked it.
     fn hold(&self) -> Holder;
 
-    /// Gives the file to a user and a group, by their numbers.
+    /// Changes the owner and the group of the file to those with these numbers.
     ///
     /// # Errors
     ///
-    /// The system's, where this process may not give files away.
+    /// The error of the system, for example if this process may not give files away.
     fn give_to(&self, user: u32, group: u32) -> io::Result<()>;
 }
 

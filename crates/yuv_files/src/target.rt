@@ -1,4 +1,5 @@
-//! Files that a command writes. The frames go to a new file beside the target, which replaces the target when it is whole.
+//! Output files of a command. Frames are written to a temporary file beside the target, which replaces the target when it is
+//! complete.
 ghost use Rattle.std.specs.Prelude.{◌≡◌, ◌≢◌, ◌↔◌, IsNone, IsTrue, None, bit_and};
 ghost use Rattle.std.specs.Fs.{metadata_mode};
 
@@ -13,50 +14,50 @@ use std::io::{self, ErrorKind, Read};
 use std::os::unix::fs::MetadataExt;
 use std::rt::Files;
 
-/// What a mode may have where a file is another one's: not that it runs as its owner or its group.
+/// The bits of a mode that a file keeps if its owner or group changes: all but the set-user-ID and set-group-ID bits.
 const UNOWNED_BITS: u32 = 0o1777;
 
-/// What a command writes in place of a target.
+/// The file that a command writes for a target: a temporary file that will replace the target, or the target itself.
 #[derive(Drop)]
 pub struct TargetFile<F> {
     /// The file that is open for writing.
     pub file: F,
-    /// How the file replaces the target, where it is not the target itself.
+    /// The replacement of the target, or `None` if the file is the target itself.
     replacement: Option<Replacement>,
-    /// Whether the file is a target that is rewritten, and has its old bytes yet.
+    /// Whether the file is an existing target that is overwritten, and still has its old bytes.
     is_untouched: bool,
-    /// What of the target can't be kept.
+    /// The part of the target that can't be kept, if there is one.
     loss: Option<Loss>,
 }
 
-/// A new file, and the one that it is to replace.
+/// A temporary file, and the target that it will replace.
 #[derive(Drop)]
 struct Replacement {
-    /// The name of the new file.
+    /// The name of the temporary file.
     partial: String,
-    /// The name of the target, after all links.
+    /// The name of the target after all links are followed.
     target: String,
-    /// Who may do what with the new file when it is whole.
+    /// The mode that the file gets when it is complete.
     mode: u32,
-    /// Whether there is a target now.
+    /// Whether the target already exists.
     is_there: bool,
 }
 
-/// Why what was written is not in the place of its target.
+/// The reason why a file could not replace its target.
 #[derive(Clone, Copy)]
 pub enum Unkept {
-    /// The target can't be replaced or rewritten. It is as it was, and the new file is gone.
+    /// The target can't be replaced or overwritten. It is unchanged, and the temporary file is removed.
     Replace(ErrorKind),
-    /// The target was rewritten, and not to its end. The new file is whole, and stays beside it.
+    /// The target was overwritten, but not completely. The temporary file is complete, and remains beside it.
     Rewrite(ErrorKind),
 }
 
-/// What of a target can't be kept.
+/// The part of a target that can't be kept.
 #[derive(Clone, Copy)]
 pub enum Loss {
-    /// No file can be made beside it, so it is lost should the run fail.
+    /// The contents of the target, if the command fails: no temporary file can be created beside it, so it is overwritten.
     Bytes,
-    /// Its owner or its group.
+    /// The owner or the group of the target.
     Owner,
 }
 
@@ -70,15 +71,16 @@ impl fmt::Display for Loss {
     }
 }
 
-/// How a stream of YUV4MPEG2 begins.
+/// The first bytes of a YUV4MPEG2 stream.
 const MAGIC: &[u8] = b"YUV4MPEG2";
 
-/// Returns what is known of a target, by its name and by the file that has this name, if there is one. Only a regular file can be a
-/// stream or an input here. A file that this process has open, as `/dev/fd/3`, is neither.
+/// Returns the properties of a target: of its name, and of the file with this name if there is one. Only a regular file counts as
+/// a stream or an input. The name of a file that this process has open, as `/dev/fd/3`, counts as neither. A file that cannot be
+/// read is not a stream.
 ///
 /// # Errors
 ///
-/// The system's, if the name has too many symbolic links, or there is not enough memory. A file that cannot be read is no stream.
+/// The error of the system if the name has too many symbolic links, and an error if there is not enough memory.
 pub fn target_facts<H: Files + AllocGlobal>(
     rt: &H,
     name: &str,
@@ -96,7 +98,7 @@ pub fn target_facts<H: Files + AllocGlobal>(
     })
 }
 
-/// Returns whether a name is that of a regular file that begins as a YUV4MPEG2 stream does.
+/// Returns whether a name belongs to a regular file that begins as a YUV4MPEG2 stream does.
 pub fn is_stream_file<H: Files>(rt: &H, name: &str) -> bool {
     match fs::metadata(rt, name) {
         Ok(found) => found.is_file() && is_stream(rt, name),
@@ -108,7 +110,7 @@ pub fn is_stream_file<H: Files>(rt: &H, name: &str) -> bool {
 fn is_stream<H: Files>(rt: &H, name: &str) -> bool {
     let mut first = [0; 9];
     match fs::open(rt, name) {
-        // A regular file gives all bytes that are asked for, unless it has fewer.
+        // A read from a regular file returns fewer bytes than requested only at its end.
         Ok(mut file) => match file.read(&mut first) {
             Ok(9) => first.as_slice() == MAGIC,
             _ => false,
@@ -125,14 +127,18 @@ impl<F: OpenFile> TargetFile<F> {
         self.replacement.is_none()
     }
 
-    /// Returns what of the target can't be kept.
+    /// Returns the part of the target that can't be kept, if there is one.
     pub fn loss(&self) -> Option<Loss>
         ensures { result ≡ self.now.loss }
     {
         self.loss
     }
 
-    /// Takes the old bytes from a target that is rewritten.
+    /// Removes the old bytes of a target that is overwritten.
+    ///
+    /// # Errors
+    ///
+    /// The error of the system.
     pub fn begin(&mut self) -> io::Result<()>
         ensures { self.new.file ≡ self.old.file }
     {
@@ -145,12 +151,12 @@ impl<F: OpenFile> TargetFile<F> {
 }
 
 impl<F: OpenFile + SystemFile + Drop> TargetFile<F> {
-    /// Opens a new file beside the target of this name, which is none of the files that are read. A target that is no regular file,
-    /// as a device or a pipe, is opened itself, and so is what a process has open.
+    /// Opens a temporary file beside the target `name`. Its name differs from those of the files `inputs`. If the target is not a
+    /// regular file, for example a device or a pipe, or if it is a file that a process has open, the target itself is opened.
     ///
     /// # Errors
     ///
-    /// The system's, where the target or the new file can't be opened for writing. Nothing has changed then.
+    /// The error of the system if the target or the temporary file can't be opened for writing. The target is then unchanged.
     pub fn create<H: Files<File = F> + AllocGlobal>(
         rt: &H,
         name: &str,
@@ -170,7 +176,7 @@ impl<F: OpenFile + SystemFile + Drop> TargetFile<F> {
         }
     }
 
-    /// Opens the target itself at its end.
+    /// Opens the target itself, and appends to it.
     fn open_at_end<H: Files<File = F>>(rt: &H, name: &str) -> io::Result<Self> {
         let mut options = OpenOptions::new();
         options.append(true);
@@ -182,7 +188,7 @@ impl<F: OpenFile + SystemFile + Drop> TargetFile<F> {
         Ok(Self::of_target(fs::create(rt, name)?))
     }
 
-    /// Takes the target itself.
+    /// Returns an open target that is written directly.
     fn of_target(file: F) -> Self {
         TargetFile {
             file,
@@ -192,7 +198,7 @@ impl<F: OpenFile + SystemFile + Drop> TargetFile<F> {
         }
     }
 
-    /// Opens a new file beside a target that is there, or the target where none can be made beside it.
+    /// Opens a temporary file beside an existing target, or the target itself if no file can be created beside it.
     fn replace<H: Files<File = F> + AllocGlobal>(
         rt: &H,
         target: String,
@@ -211,7 +217,8 @@ impl<F: OpenFile + SystemFile + Drop> TargetFile<F> {
         }
     }
 
-    /// Opens a new file beside the target, with the mode, owner and group of one that it will replace.
+    /// Opens a temporary file beside the target. If `found` is the metadata of an existing target, the file gets its mode, owner
+    /// and group.
     fn create_beside<H: Files<File = F> + AllocGlobal>(
         rt: &H,
         target: String,
@@ -237,11 +244,11 @@ impl<F: OpenFile + SystemFile + Drop> TargetFile<F> {
         })
     }
 
-    /// Puts the file in the place of the target.
+    /// Replaces the target with the complete file.
     ///
     /// # Errors
     ///
-    /// [`Unkept::Replace`], and [`Unkept::Rewrite`] where the target can't be replaced, only rewritten, and that failed.
+    /// [`Unkept::Replace`] if the target can't be replaced, and [`Unkept::Rewrite`] if it can only be overwritten and that fails.
     pub fn keep<H: Files<File = F>>(mut self, rt: &H) -> Result<(), Unkept> {
         let begun = self.begin();
         let TargetFile {
@@ -259,7 +266,7 @@ impl<F: OpenFile + SystemFile + Drop> TargetFile<F> {
         }
     }
 
-    /// Removes the new file, and leaves the target as it was.
+    /// Removes the temporary file, and leaves the target unchanged.
     pub fn discard<H: Files>(self, rt: &H) {
         let TargetFile {
             file,
@@ -270,13 +277,13 @@ impl<F: OpenFile + SystemFile + Drop> TargetFile<F> {
         if let Some(replacement) = replacement {
             let _ = fs::remove_file(rt, replacement.partial.as_str());
         }
-        // Until its name is gone no other run may take the file over.
+        // The file stays locked until its name is removed, so that no other run takes it over.
         drop(file);
     }
 }
 
 impl Replacement {
-    /// Puts the new file in the place of the target.
+    /// Replaces the target with the temporary file.
     fn put<H: Files>(self, rt: &H, file: H::File) -> Result<(), Unkept> {
         let (partial, target) = (self.partial.as_str(), self.target.as_str());
         let put = match self.finish(&file) {
@@ -286,7 +293,7 @@ impl Replacement {
         drop(file);
         match put {
             Ok(()) => Ok(()),
-            // Where something is mounted, or its folder lets nobody else remove it, the target stays the file that it is.
+            // A mount point, or a file that only its owner may remove from the folder, can't be replaced and is overwritten.
             Err(error) if self.is_there && is_fixed(&error) => rewrite(rt, partial, target),
             Err(error) => {
                 let _ = fs::remove_file(rt, partial);
@@ -295,8 +302,8 @@ impl Replacement {
         }
     }
 
-    /// Says who may do what with the new file. What stands in its place is lost by the renaming, so what replaces it has to be on
-    /// the disk before: that may take long, and until then the file is marked as not whole.
+    /// Sets the mode of the temporary file. If the target exists, renaming deletes it, so all bytes of the file are first written
+    /// to the disk. This may take long, and until then the file is marked as incomplete.
     fn finish<F: OpenFile>(&self, file: &F) -> io::Result<()> {
         if self.is_there {
             file.sync_all()?;
@@ -305,8 +312,8 @@ impl Replacement {
     }
 }
 
-/// Writes what a file has into a target, and removes it. Where that fails behind the first change of the target, the file stays, for
-/// it is whole.
+/// Copies the temporary file over the target, and removes it. If this fails after the target was changed, the temporary file is
+/// kept, because it is complete.
 fn rewrite<H: Files>(rt: &H, partial: &str, target: &str) -> Result<(), Unkept> {
     match open_both(rt, partial, target) {
         Ok((from, to)) => match fill(from, to) {
@@ -323,21 +330,21 @@ fn rewrite<H: Files>(rt: &H, partial: &str, target: &str) -> Result<(), Unkept> 
     }
 }
 
-/// Opens a file for reading, and another one for writing.
+/// Opens the file `from` for reading, and the file `to` for writing.
 fn open_both<H: Files>(rt: &H, from: &str, to: &str) -> io::Result<(H::File, H::File)> {
     let from = fs::open(rt, from)?;
     let to = open_for_writing(rt, to)?;
     Ok((from, to))
 }
 
-/// Writes what a file has into another one, in place of what that has.
+/// Replaces the contents of the file `to` with those of the file `from`.
 fn fill<F: OpenFile + io::Read + io::Write + Drop>(mut from: F, mut to: F) -> io::Result<()> {
     to.set_len(0)?;
     io::copy(&mut from, &mut to)?;
     to.sync_all()
 }
 
-/// Returns whether a folder takes no new file.
+/// Returns whether the error means that no file can be created in a folder.
 fn takes_no_files(error: &io::Error) -> bool {
     matches!(
         error.kind(),
@@ -345,7 +352,7 @@ fn takes_no_files(error: &io::Error) -> bool {
     )
 }
 
-/// Returns whether a name can't get another file.
+/// Returns whether the error means that a file can't be replaced under its name.
 fn is_fixed(error: &io::Error) -> bool {
     matches!(
         error.kind(),
@@ -353,15 +360,15 @@ fn is_fixed(error: &io::Error) -> bool {
     )
 }
 
-/// Returns who may do what with a file.
+/// Returns the mode of a file.
 fn mode_of(found: &Metadata) -> u32
     ensures { result ≡ bit_and (metadata_mode found.now) 0o7777 }
 {
     found.mode() & MODE_BITS
 }
 
-/// Gives a new file the owner and the group of one that it will replace, and returns the mode that it gets: without the set-ID
-/// bits where these are not kept.
+/// Gives a new file the owner and the group of the file that it will replace. Returns the mode that it gets, without the
+/// set-user-ID and set-group-ID bits if the owner or the group was not kept, and the loss in this case.
 fn kept_of<F: OpenFile + SystemFile>(file: &F, found: &Metadata) -> (u32, Option<Loss>)
     ensures kept { result.1 ≡ None → result.0 ≡ bit_and (metadata_mode found.now) 0o7777 }
     ensures lost { result.1 ≢ None → result.0 ≡ bit_and (metadata_mode found.now) 0o1777 }
@@ -372,7 +379,7 @@ fn kept_of<F: OpenFile + SystemFile>(file: &F, found: &Metadata) -> (u32, Option
     }
 }
 
-/// Gives a new file the owner and the group of another one, or the group alone. Returns whether it has both.
+/// Gives a new file the owner and the group of another file, or only the group. Returns whether the file has both.
 fn give_owner<F: OpenFile + SystemFile>(file: &F, found: &Metadata) -> io::Result<bool> {
     let own = file.metadata()?;
     if !has_owner(&own, found) && file.give_to(found.uid(), found.gid()).is_err() {
@@ -381,7 +388,7 @@ fn give_owner<F: OpenFile + SystemFile>(file: &F, found: &Metadata) -> io::Resul
     Ok(has_owner(&file.metadata()?, found))
 }
 
-/// Returns whether two files have one owner and one group.
+/// Returns whether two files have the same owner and the same group.
 fn has_owner(one: &Metadata, other: &Metadata) -> bool {
     one.uid() == other.uid() && one.gid() == other.gid()
 }

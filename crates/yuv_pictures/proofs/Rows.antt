@@ -1,4 +1,4 @@
--- One row of a picture as a picture, and its colors.
+-- One row of a picture is itself a picture, and has the colors of the row.
 use Rattle.std.proofs.Common.{ℕ, zero, suc, ◌≡◌, ◌≤◌, List, [], ◌∷◌, length, take, flat_map, Some, slice_get, sym, ap, ◌∙◌, arith, take_all}
 use Rattle.v_frame_raster.specs.Table.{Table, rectangle}
 use Rattle.v_frame_raster.specs.StridedRows.{strided_rows}

@@ -1,4 +1,4 @@
--- A writer that can take rows gives up only by a fault or for want of memory.
+-- A PNG writer that accepts rows fails only if a write fails or memory runs out.
 use Rattle.std.proofs.Common.{ℕ, sym, ◌∙◌, arith}
 use Rattle.v_frame_png.specs.Refusals.{AcceptsRows, StopsRows}
 use Rattle.v_frame_png.specs.declared.error.PngError.{PngError}

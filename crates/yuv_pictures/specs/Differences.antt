@@ -1,4 +1,5 @@
--- How two frames differ: as a table of amplified differences, and as numbers of each plane.
+-- The differences of two frames: as a table of amplified differences, and as numbers for each
+-- plane.
 use Rattle.std.specs.Prelude.{ℕ, ◌≡◌, ◌↔◌, nat_lt, IfSome, IsNone, Option, Some, None}
 use Rattle.std.specs.Int.{abs_diff}
 use Rattle.std.specs.Int.NonZero.{non_zero_u8_get}
@@ -11,7 +12,7 @@ use Rattle.yuv_pictures.specs.declared.places.Found.{Found}
 use Rattle.yuv_pictures.specs.declared.places.PlaneDifference.{PlaneDifference}
 
 module _ {T : Type 0} (form : PixelForm T) where
-  -- the bytes of the rows of the differences of luma, each multiplied by a gain
+  -- The bytes of the rows of the differences of luma, each multiplied by a gain.
   abbrev pub difference_rows : Frame T → Frame T → ℕ → Table ℕ
   difference_rows first second gain =
       let depth = non_zero_u8_get first.bit_depth in
@@ -19,7 +20,7 @@ module _ {T : Type 0} (form : PixelForm T) where
       (combined (combined (difference_of form gain depth)) (table_of first.y_plane)
       (table_of second.y_plane))
 
-  -- what differs in two tables of one size
+  -- The numbers `found` describe the differences of two tables of the same size.
   pub record IsPlaneDifference (a b : Table T) (found : PlaneDifference) : Type 0 where
     pub count : found.count
         ≡ passing_pairs (λ p q. nat_lt 0 (abs_diff (form.value p) (form.value q)))
@@ -28,7 +29,7 @@ module _ {T : Type 0} (form : PixelForm T) where
     pub first : IfSome found.first (λ place. IsFirstDifference a b place.0 place.1)
     pub greatest : IsGreatestDifference form.value a b found.greatest
 
-  -- the same of chroma planes, where both are there
+  -- The numbers describe the differences of two chroma planes, if both exist.
   abbrev pub IsChromaDifference : Option (Table T) → Option (Table T) → Option PlaneDifference
       → Type 0
   IsChromaDifference (Some a) (Some b) (Some found) = IsPlaneDifference a b found
@@ -36,7 +37,7 @@ module _ {T : Type 0} (form : PixelForm T) where
   IsChromaDifference (Some a) None found = found ≡ None
   IsChromaDifference None b found = found ≡ None
 
-  -- what differs in the planes of two frames
+  -- The numbers describe the differences of the planes of two frames.
   pub record AreDifferences (a b : Tables T) (found : Found) : Type 0 where
     pub y : IsPlaneDifference a.y b.y found.y
     pub u : IsChromaDifference a.u b.u found.u

@@ -1,4 +1,4 @@
--- The words that callers' clauses cite, re-exported from one place.
+-- The definitions that contracts of other crates use, re-exported from one module.
 pub use Rattle.yuv_pictures.specs.Above.{most_at, AreUpTo}
 pub use Rattle.yuv_pictures.specs.Colors.{frame_colors, frame_rows, frame_samples, full_chroma}
 pub use Rattle.yuv_pictures.specs.Colors.{has_chroma, luma_shown, rgb_bytes}

@@ -1,4 +1,4 @@
--- When a picture is not written.
+-- The errors for which a picture is not written.
 use Rattle.std.specs.Prelude.{ℕ, ◌≡◌, ⊤, Bool, true, false, IfSome}
 use Rattle.std.specs.Int.NonZero.{non_zero_u8_get}
 use Rattle.v_frame.specs.Prelude.{ChromaSubsampling, Frame, Raster, Yuv444}
@@ -12,7 +12,7 @@ use Rattle.yuv_pictures.specs.declared.error.PictureError.{PictureError}
 use Rattle.yuv_pictures.specs.declared.error.PictureError.TheVariants.{TooLarge, NoPlane, Layout, Unlike}
 use Rattle.yuv_pictures.specs.declared.error.PictureError.TheVariants.{Png, OutOfMemory}
 
--- the writer failed or took nothing, or there was no memory
+-- The writer failed or wrote no bytes, or there was not enough memory.
 abbrev pub IsTrouble : PictureError → Type 0
 IsTrouble (Png cause) = IsFault cause
 IsTrouble OutOfMemory = ⊤
@@ -21,12 +21,12 @@ IsTrouble NoPlane = ⊥
 IsTrouble Layout = ⊥
 IsTrouble Unlike = ⊥
 
--- what an error of the writer becomes
+-- The error of a picture for an error of the PNG writer.
 abbrev pub trouble_of : PngError → PictureError
 trouble_of NoMemory = OutOfMemory
 trouble_of cause = Png cause
 
--- why there is no header of a size
+-- The reason why no header has this size.
 abbrev pub RefusesSize : ℕ → ℕ → PictureError → Type 0
 RefusesSize width height (TooLarge columns rows) =
     ¬ IsPictureSize width height × (columns ≡ width) × (rows ≡ height)
@@ -36,19 +36,19 @@ RefusesSize width height NoPlane = ⊥
 RefusesSize width height Layout = ⊥
 RefusesSize width height Unlike = ⊥
 
--- the fact that a test chooses
+-- One of two propositions, selected by a test.
 abbrev pub OneOf : Bool → Type 0 → Type 0 → Type 0
 OneOf true P Q = P
 OneOf false P Q = Q
 
 -- ---- gray
 
--- samples of so many bytes and a depth can be gray, in a picture of a size
+-- Samples of `bytes` bytes with this depth can be written in gray, in a picture of this size.
 pub record AcceptsGray (bytes depth width height : ℕ) : Type 0 where
   pub size : IsPictureSize width height
   pub depth_fits : DepthFits bytes depth
 
--- why gray is not written
+-- The reason why a gray picture is not written.
 abbrev pub StopsGray : ℕ → ℕ → ℕ → ℕ → PictureError → Type 0
 StopsGray bytes depth width height (TooLarge columns rows) =
     RefusesSize width height (TooLarge columns rows)
@@ -63,13 +63,13 @@ StopsGray bytes depth width height Unlike = ⊥
 module _ {T : Type 0} where
   -- ---- colors
 
-  -- a chroma plane has the size that its format has beside luma of a size, rounded up
+  -- A chroma plane has the size that the format requires for luma of this size, rounded up.
   pub record IsChromaSize (format : ChromaSubsampling) (width height : ℕ) (plane : Raster T)
       : Type 0 where
     pub across : SizesFit (scales_between format Yuv444).0 plane.geometry.width width
     pub down : SizesFit (scales_between format Yuv444).1 plane.geometry.height height
 
-  -- the planes of a frame are as its format and its bit depth say
+  -- The planes of a frame fit its format and its bit depth.
   pub record IsSound (bytes : ℕ) (frame : Frame T) : Type 0 where
     pub depth_fits : DepthFits bytes (non_zero_u8_get frame.bit_depth)
     pub u : IfSome frame.u_plane (IsChromaSize frame.subsampling frame.y_plane.geometry.width
@@ -81,7 +81,7 @@ module _ {T : Type 0} where
     pub size : IsPictureSize frame.y_plane.geometry.width frame.y_plane.geometry.height
     pub sound : IsSound bytes frame
 
-  -- why colors are not written
+  -- The reason why a color picture is not written.
   abbrev pub StopsColors : ℕ → Frame T → PictureError → Type 0
   StopsColors bytes frame (TooLarge columns rows) =
       RefusesSize frame.y_plane.geometry.width frame.y_plane.geometry.height
@@ -95,7 +95,7 @@ module _ {T : Type 0} where
   StopsColors bytes frame NoPlane = ⊥
   StopsColors bytes frame Unlike = ⊥
 
-  -- why a frame is not brought to 8 bits and full chroma
+  -- The reason why a frame is not given a chroma pixel for each luma pixel.
   abbrev pub StopsFullChroma : ℕ → Frame T → PictureError → Type 0
   StopsFullChroma bytes frame Layout = ¬ IsSound bytes frame
   StopsFullChroma bytes frame OutOfMemory = ⊤
@@ -104,7 +104,7 @@ module _ {T : Type 0} where
   StopsFullChroma bytes frame NoPlane = ⊥
   StopsFullChroma bytes frame Unlike = ⊥
 
-  -- ---- frames: colors, or gray where there is no chroma
+  -- ---- frames: colors, or gray if there is no chroma
 
   abbrev pub AcceptsFrame : ℕ → Frame T → Type 0
   AcceptsFrame bytes frame =
@@ -120,7 +120,7 @@ module _ {T : Type 0} where
 
   -- ---- differences
 
-  -- luma of one size, and one bit depth
+  -- The luma planes have the same size, and the frames the same bit depth.
   pub record AreAlike (first second : Frame T) : Type 0 where
     pub wide : second.y_plane.geometry.width ≡ first.y_plane.geometry.width
     pub high : second.y_plane.geometry.height ≡ first.y_plane.geometry.height
@@ -131,7 +131,7 @@ module _ {T : Type 0} where
     pub gray : AcceptsGray bytes (non_zero_u8_get first.bit_depth) first.y_plane.geometry.width
         first.y_plane.geometry.height
 
-  -- why differences are not written
+  -- The reason why differences are not written.
   abbrev pub StopsDifference : ℕ → Frame T → Frame T → PictureError → Type 0
   StopsDifference bytes first second Unlike = ¬ AreAlike first second
   StopsDifference bytes first second (TooLarge columns rows) =

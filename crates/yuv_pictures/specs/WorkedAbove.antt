@@ -1,4 +1,4 @@
--- Small cases worked out by hand. Each line computes: it is proved by `refl`.
+-- Examples that were calculated by hand. Each one is proved by computation (`refl`).
 use Rattle.std.specs.Prelude.{◌≡◌, refl}
 use Rattle.yuv_pictures.specs.Above.{most_at}
 

@@ -1,5 +1,5 @@
--- Small cases, whose numbers Python worked out of the standards' weights. Each line computes: it is
--- proved by `refl`.
+-- Examples whose numbers were calculated with Python from the weights in the standards. Each one is
+-- proved by computation (`refl`).
 use Rattle.std.specs.Prelude.{ℕ, ◌≡◌, [], ◌∷◌, refl}
 use Rattle.v_frame.specs.Prelude.{Table, one_byte, two_bytes, Yuv420, Yuv444}
 use Rattle.v_frame_convert.specs.Prelude.{scaled, scales_between, pixel_of_depth}
@@ -12,11 +12,12 @@ use Rattle.yuv_pictures.specs.Gray.{gray_rows}
 
 -- ---- gray
 
--- 8 bits stay
+-- Samples of 8 bits do not change.
 gray_of_bytes : gray_rows one_byte 8 ((0 ∷ 16 ∷ 255 ∷ []) ∷ []) ≡ (0 ∷ 16 ∷ 255 ∷ []) ∷ []
 gray_of_bytes = refl
 
--- 10 bits are shifted up: 64 to 4096, 1023 to 65472, high byte first
+-- Samples of 10 bits are shifted left: 64 becomes 4096, and 1023 becomes 65472. The high byte is
+-- first.
 gray_of_ten_bits : gray_rows two_bytes 10 ((64 ∷ 1023 ∷ []) ∷ []) ≡ (16 ∷ 0 ∷ 255 ∷ 192 ∷ []) ∷ []
 gray_of_ten_bits = refl
 
@@ -25,7 +26,7 @@ gray_of_sixteen_bits = refl
 
 -- ---- colors
 
--- two by two of 4:2:0, whose one chroma pixel is that of red
+-- A picture of 2x2 pixels in 4:2:0, whose single chroma pixel is that of red.
 abbrev red_luma : Table ℕ
 red_luma = (16 ∷ 81 ∷ []) ∷ (145 ∷ 235 ∷ []) ∷ []
 
@@ -43,7 +44,7 @@ red_by_bt601 : exact_color_rows Bt601 Limited 8 one_byte rgb_bytes red_luma (rep
 unfolding exact_color exact_of_pixels
 red_by_bt601 = refl
 
--- another standard or another range makes another red
+-- Another standard or another range gives another red.
 red_by_bt709 : exact_color_rows Bt709 Limited 8 one_byte rgb_bytes ((81 ∷ []) ∷ []) ((90 ∷ []) ∷ [])
     ((240 ∷ []) ∷ []) ≡ (255 ∷ 24 ∷ 0 ∷ []) ∷ []
 unfolding exact_color exact_of_pixels
@@ -54,7 +55,7 @@ red_of_full_range : exact_color_rows Bt601 Full 8 one_byte rgb_bytes ((81 ∷ []
 unfolding exact_color exact_of_pixels
 red_of_full_range = refl
 
--- 10 bits are not brought to 8 first, by which it would be 130, 71 and 193
+-- Samples of 10 bits are not first converted to 8, which would give 130, 71 and 193.
 deep_color : exact_color_rows Bt709 Limited 10 two_bytes rgb_bytes ((378 ∷ []) ∷ [])
     ((705 ∷ []) ∷ []) ((594 ∷ []) ∷ []) ≡ (128 ∷ 70 ∷ 193 ∷ []) ∷ []
 unfolding exact_color exact_of_pixels
@@ -62,12 +63,13 @@ deep_color = refl
 
 -- ---- differences
 
--- 3 times 20 is 60, 3 times 100 is above 255, and nothing is black
+-- With a gain of 3, a difference of 20 gives 60, a difference of 100 exceeds 255, and no difference
+-- is black.
 difference_of_bytes : gray_rows one_byte 8 (combined (combined (difference_of one_byte 3 8))
     ((120 ∷ 200 ∷ 7 ∷ []) ∷ []) ((100 ∷ 100 ∷ 7 ∷ []) ∷ [])) ≡ (60 ∷ 255 ∷ 0 ∷ []) ∷ []
 difference_of_bytes = refl
 
--- of 10 bits 3 becomes 12, which is 768 of 16 bits
+-- With a gain of 4, a difference of 3 in 10 bits gives 12, which is 768 in 16 bits.
 difference_of_ten_bits : gray_rows two_bytes 10 (combined (combined (difference_of two_bytes 4 10))
     ((500 ∷ []) ∷ []) ((503 ∷ []) ∷ [])) ≡ (3 ∷ 0 ∷ []) ∷ []
 difference_of_ten_bits = refl

@@ -30,14 +30,14 @@ pub fn has_sample_above<T: Pixel>(frame: &Frame<T>) -> bool
         || chroma_exceeds(&frame.v_plane, most)
 }
 
-/// Returns whether a sample of a plane is above a value.
+/// Returns whether a sample of a plane is above `most`.
 fn plane_exceeds<T: Pixel>(plane: &Plane<T>, most: u16) -> bool
     ensures { (result ≡ false) ↔ IsUpTo T.form most (table_of plane.now) }
 {
     maximum(&plane.as_plane_ref()).into_u16() > most
 }
 
-/// Returns whether a sample of a chroma plane is above a value. `false` if there is no plane.
+/// Returns whether a sample of a chroma plane is above `most`. Returns `false` if there is no plane.
 fn chroma_exceeds<T: Pixel>(plane: &Option<Plane<T>>, most: u16) -> bool
     ensures { (result ≡ false) ↔ IfSome (option_map table_of plane.now) (IsUpTo T.form most) }
 {

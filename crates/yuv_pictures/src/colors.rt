@@ -1,4 +1,4 @@
-//! The colors of a frame as a picture.
+//! Pictures of the colors of a frame.
 ghost use Rattle.std.specs.Prelude.{◌≡◌, ◌*◌, ◌<◌, Some, length, slice_get, IfErr, IfOk, OnOk};
 ghost use Rattle.std.specs.Int.NonZero.{non_zero_u8_get};
 ghost use Rattle.v_frame.specs.Prelude.{height_of, table_of, width_of};
@@ -22,27 +22,31 @@ use v_frame_convert::{convert_frame, frames_fit};
 use v_frame_png::{Header, Samples};
 use v_frame_rgb::{ColorRange, ExactMatrix, Rgb, Standard, rows};
 
-/// How the colors of a frame are made.
+/// The way in which the colors of a frame are calculated.
 #[derive(Debug, Clone, Copy, PartialEq, Eq)]
 pub struct Colors {
-    /// The standard by which R'G'B' is made.
+    /// The standard by which Y'CbCr is converted to R'G'B'.
     pub standard: Standard,
-    /// Which samples stand for black and white.
+    /// The range of the samples: the values that represent black and white.
     pub range: ColorRange,
 }
 
-/// Writes the colors of a frame as RGB of 8 bits, and returns the writer.
+/// Writes the colors of a frame as RGB with 8 bits for each channel, and returns the writer.
 ///
-/// Chroma pixels are repeated for each luma pixel beside them, as by `convert_frame` of `v_frame_convert`. Colors are made of
-/// samples of the frame's bit depth, and rounded once. Where one chroma plane is missing it counts as no color. A frame without
-/// chroma is written in gray, as [`write_plane_picture`](crate::write_plane_picture) writes its luma: its samples as they are,
-/// whatever `colors` says.
+/// Each chroma pixel is repeated for the luma pixels that it belongs to, as `convert_frame` of `v_frame_convert` does. Colors are
+/// calculated from samples of the frame's bit depth, and rounded once. If one chroma plane is missing, it counts as neutral. A
+/// frame without chroma is written in gray, as [`write_plane_picture`](crate::write_plane_picture) writes its luma: with
+/// unchanged samples, regardless of `colors`.
 ///
 /// # Errors
 ///
-/// [`PictureError::TooLarge`] where a side is above 2^31 - 1, [`PictureError::Layout`] where a chroma plane has another size
-/// than the format of the frame says or its bit depth is none of its type of pixels, [`PictureError::Png`] where a write
-/// failed or took nothing, and [`PictureError::OutOfMemory`]. Then the writer is dropped.
+/// The writer is dropped if an error is returned:
+///
+/// - [`PictureError::TooLarge`] if the width or the height is above 2^31 - 1.
+/// - [`PictureError::Layout`] if a chroma plane does not have the size that the format of the frame requires, or if the type of
+///   pixels does not fit the bit depth.
+/// - [`PictureError::Png`] if a write failed or wrote no bytes.
+/// - [`PictureError::OutOfMemory`] if there is not enough memory.
 pub fn write_frame_picture<T: Pixel, W: io::Write + Drop>(
     alloc: Global,
     out: W,
@@ -64,14 +68,14 @@ pub fn write_frame_picture<T: Pixel, W: io::Write + Drop>(
     }
 }
 
-/// Returns whether one of the chroma planes is there.
+/// Returns whether the frame has at least one chroma plane.
 fn has_chroma<T: Pixel>(frame: &Frame<T>) -> bool
     ensures { result ≡ has_chroma frame.now }
 {
     frame.u_plane.is_some() || frame.v_plane.is_some()
 }
 
-/// Writes the colors of a frame. A chroma plane that is not there counts as no color.
+/// Writes the colors of a frame. A missing chroma plane counts as neutral.
 fn write_colors<T: Pixel, W: io::Write + Drop>(
     alloc: Global,
     out: W,
@@ -95,11 +99,12 @@ fn write_colors<T: Pixel, W: io::Write + Drop>(
     }
 }
 
-/// Returns what a frame shows with a chroma pixel for each luma pixel.
+/// Returns a frame with the same contents and a chroma pixel for each luma pixel.
 ///
 /// # Errors
 ///
-/// [`PictureError::Layout`] where the frame is not as its format and its bit depth say, and [`PictureError::OutOfMemory`].
+/// [`PictureError::Layout`] if the planes do not fit the format and the bit depth of the frame, and
+/// [`PictureError::OutOfMemory`].
 fn with_full_chroma<T: Pixel>(alloc: Global, frame: &Frame<T>) -> Result<Frame<T>, PictureError>
     ensures shown { IfOk result (ShowsFullChroma T.form frame.now) }
     ensures accepted { OnOk result (IsSound T.BYTES frame.now) }
@@ -113,7 +118,7 @@ fn with_full_chroma<T: Pixel>(alloc: Global, frame: &Frame<T>) -> Result<Frame<T
     Ok(shown)
 }
 
-/// Returns a blank frame of the size and the bit depth of another one, with chroma of the size of luma.
+/// Returns a blank frame with the size and the bit depth of `like`, and with chroma planes as large as luma.
 fn full_frame<T: Pixel>(alloc: Global, like: &Frame<T>) -> Result<Frame<T>, PictureError>
     ensures full { IfOk result (IsFullFrame like.now.y_plane.geometry.width
         like.now.y_plane.geometry.height (non_zero_u8_get like.now.bit_depth)) }
@@ -129,7 +134,7 @@ fn full_frame<T: Pixel>(alloc: Global, like: &Frame<T>) -> Result<Frame<T>, Pict
     })
 }
 
-/// Writes the colors of three planes of one size, and returns the writer.
+/// Writes the colors of three planes of the same size, and returns the writer.
 fn write_planes<T: Pixel, W: io::Write + Drop>(
     alloc: Global,
     out: W,
@@ -159,7 +164,7 @@ fn write_planes<T: Pixel, W: io::Write + Drop>(
     write_color_rows(alloc, out, header, &y, &u, &v, matrix)
 }
 
-/// Writes the colors of luma and chroma of one size, row by row, and returns the writer.
+/// Writes the colors of luma and chroma planes of the same size, row by row, and returns the writer.
 fn write_color_rows<T: Pixel, W: io::Write + Drop>(
     alloc: Global,
     out: W,
@@ -181,7 +186,7 @@ fn write_color_rows<T: Pixel, W: io::Write + Drop>(
     ensures error { IfErr result IsTrouble }
 {
     let height = y.height();
-    // The width is positive, since a row is never empty.
+    // The width is positive, because rows are never empty.
     let _width = y.width();
     let mut line = vec![in alloc; 0; header.row_size()]?;
     let mut png = begin(alloc, out, header)?;
@@ -194,7 +199,7 @@ fn write_color_rows<T: Pixel, W: io::Write + Drop>(
     end(png)
 }
 
-/// Makes a line the colors of row `k` of luma and chroma of one size.
+/// Fills `line` with the colors of row `k` of luma and chroma planes of the same size.
 fn make_color_row<T: Pixel>(
     line: &mut [u8],
     y: &RowsRef<'_, T>,
@@ -213,7 +218,7 @@ fn make_color_row<T: Pixel>(
         T.form rgb_bytes y.now u.now v.now) k ≡ Some line.new }
 {
     let (width, size) = (y.width(), line.len());
-    // The rows that are read are there, and as wide as the picture.
+    // The three rows exist, and are as wide as the picture.
     let _y_row = y.visible_row(k);
     let _u_row = u.visible_row(k);
     let _v_row = v.visible_row(k);

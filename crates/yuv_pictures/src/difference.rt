@@ -1,4 +1,4 @@
-//! How far two frames are apart, as a picture.
+//! Pictures of the difference of two frames.
 ghost use Rattle.std.specs.Prelude.{◌≡◌, ◌↔◌, IfErr, IfOk, IsTrue, OnOk};
 ghost use Rattle.std.specs.Int.NonZero.{non_zero_u8_get};
 ghost use Rattle.v_frame_png.specs.Prelude.{HasFile};
@@ -16,16 +16,19 @@ use v_frame::pixel::Pixel;
 use v_frame_convert::depth_fits;
 use v_frame_ops::difference;
 
-/// Writes the differences of the luma of two frames in gray, and returns the writer: each is multiplied by `gain`, and at most
-/// the largest value of the bit depth. Where nothing differs it is black. It has 8 bits a sample, or 16 where the frames have
-/// a depth above 8.
+/// Writes the differences of the luma of two frames in gray, and returns the writer. Each difference is multiplied by `gain`, and
+/// limited to the greatest value of the bit depth. Equal samples are black. The picture has 8 bits for each sample, or 16 if the
+/// frames have a depth above 8.
 ///
 /// # Errors
 ///
-/// [`PictureError::Unlike`] where luma has different sizes or the frames have different bit depths,
-/// [`PictureError::TooLarge`] where a side is above 2^31 - 1, [`PictureError::Layout`] where the bit depth is none of the
-/// type of pixels, [`PictureError::Png`] where a write failed or took nothing, and [`PictureError::OutOfMemory`]. Then the
-/// writer is dropped.
+/// The writer is dropped if an error is returned:
+///
+/// - [`PictureError::Unlike`] if the luma planes have different sizes or the frames have different bit depths.
+/// - [`PictureError::TooLarge`] if the width or the height is above 2^31 - 1.
+/// - [`PictureError::Layout`] if the type of pixels does not fit the bit depth.
+/// - [`PictureError::Png`] if a write failed or wrote no bytes.
+/// - [`PictureError::OutOfMemory`] if there is not enough memory.
 pub fn write_difference_picture<T: Pixel, W: io::Write + Drop>(
     alloc: Global,
     out: W,
@@ -52,7 +55,7 @@ pub fn write_difference_picture<T: Pixel, W: io::Write + Drop>(
     write_gray(alloc, out, &plane.as_plane_ref(), depth)
 }
 
-/// Returns whether luma has one size, and the frames one bit depth.
+/// Returns whether the luma planes of two frames have the same size, and the frames the same bit depth.
 fn are_alike<T: Pixel>(first: &Frame<T>, second: &Frame<T>) -> bool
     ensures { IsTrue result ↔ AreAlike first.now second.now }
 {

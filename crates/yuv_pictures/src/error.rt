@@ -1,13 +1,13 @@
-//! Why a picture was not written.
+//! The reasons why a picture was not written.
 
 use std::alloc::AllocError;
 use thiserror::Error;
 use v_frame_png::PngError;
 
-/// Why a picture was not written.
+/// The reason why a picture was not written.
 #[derive(Debug, Drop, Error)]
 pub enum PictureError {
-    /// The width or the height is above 2^31 - 1, so a PNG can't have it.
+    /// The width or the height is above 2^31 - 1, so the picture can't be a PNG file.
     #[error("no PNG of {width} by {height} pixels")]
     TooLarge {
         /// The width in pixels.
@@ -15,19 +15,20 @@ pub enum PictureError {
         /// The height in pixels.
         height: usize,
     },
-    /// The frame has not the plane that was asked for.
+    /// The frame does not have the requested plane.
     #[error("the frame has no such plane")]
     NoPlane,
-    /// The chroma planes have other sizes than the format of the frame says, or its bit depth is none of its type of pixels.
+    /// A chroma plane does not have the size that the format of the frame requires, or the type of pixels does not fit the bit
+    /// depth.
     #[error("the planes do not fit the format and the bit depth of the frame")]
     Layout,
-    /// Two frames have luma of different sizes, or different bit depths.
+    /// The luma planes of the two frames have different sizes, or the frames have different bit depths.
     #[error("the frames have different sizes or bit depths")]
     Unlike,
-    /// A write failed, [`PngError::Write`], or took nothing, [`PngError::WriteZero`].
+    /// A write failed ([`PngError::Write`]) or wrote no bytes ([`PngError::WriteZero`]).
     #[error(transparent)]
     Png(PngError),
-    /// A request for memory was refused.
+    /// There is not enough memory.
     #[error("out of memory")]
     OutOfMemory,
 }

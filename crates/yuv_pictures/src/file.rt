@@ -1,4 +1,4 @@
-//! The beginning and the end of a file.
+//! Begins and ends PNG files.
 ghost use Rattle.std.specs.Prelude.{◌≡◌, [], ℕ, List, Option, true, IfErr, IfOk, OnOk};
 ghost use Rattle.v_frame_png.specs.Prelude.{row_size, AcceptsRows, HasDrawn, HasFile, IsSize};
 ghost use Rattle.yuv_pictures.specs.Planes.{IsPictureSize, picture_header};
@@ -9,11 +9,11 @@ use std::alloc::Global;
 use std::io;
 use v_frame_png::{ColorSpace, Compression, Header, PngError, PngWriter, Samples};
 
-/// Returns the header of a picture, which names no color space.
+/// Returns the header of a picture. It states no color space.
 ///
 /// # Errors
 ///
-/// [`PictureError::TooLarge`] where a side is above 2^31 - 1.
+/// [`PictureError::TooLarge`] if `width` or `height` is above 2^31 - 1.
 pub(crate) fn header_of(
     width: usize,
     height: usize,
@@ -35,6 +35,10 @@ pub(crate) fn header_of(
 }
 
 /// Begins a file.
+///
+/// # Errors
+///
+/// [`PictureError::Png`] if a write failed or wrote no bytes, and [`PictureError::OutOfMemory`].
 pub(crate) fn begin<W: io::Write + Drop>(
     alloc: Global,
     out: W,
@@ -52,7 +56,11 @@ pub(crate) fn begin<W: io::Write + Drop>(
     }
 }
 
-/// Ends a file whose rows are all drawn, and returns the writer.
+/// Ends a file of which all rows are written, and returns the writer.
+///
+/// # Errors
+///
+/// [`PictureError::Png`] if a write failed or wrote no bytes, and [`PictureError::OutOfMemory`].
 pub(crate) fn end<W: io::Write + Drop>(mut png: PngWriter<W>) -> Result<W, PictureError>
     requires is_open { png.is_open ≡ true }
     requires left { png.rows_left ≡ 0 }
@@ -67,7 +75,7 @@ pub(crate) fn end<W: io::Write + Drop>(mut png: PngWriter<W>) -> Result<W, Pictu
     }
 }
 
-/// Returns the error of a write that failed, or of refused memory.
+/// Returns the error for a failed write or a failed allocation.
 pub(crate) fn trouble(error: PngError) -> PictureError
     ensures { result ≡ trouble_of error }
 {

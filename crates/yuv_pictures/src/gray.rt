@@ -1,4 +1,4 @@
-//! Planes in gray.
+//! Pictures of planes in gray.
 ghost use Rattle.std.specs.Prelude.{◌≡◌, map, IfErr, IfOk, IfSome, MatchOption, OnOk};
 ghost use Rattle.std.specs.Int.NonZero.{non_zero_u8_get};
 ghost use Rattle.v_frame.specs.Prelude.{table_of};
@@ -19,14 +19,18 @@ use v_frame_convert::{convert_depth, depth_fits};
 use v_frame_formats::Component;
 use v_frame_png::{Header, Samples};
 
-/// Writes one plane in gray, and returns the writer: 8 bits a sample, or 16 where the frame has a depth above 8. Samples of 9
-/// to 15 bits are shifted up to 16.
+/// Writes the plane `plane` of a frame in gray, and returns the writer. The picture has 8 bits for each sample, or 16 if the
+/// frame has a depth above 8. Samples of 9 to 15 bits are shifted left to 16 bits.
 ///
 /// # Errors
 ///
-/// [`PictureError::NoPlane`] where the frame has not this plane, [`PictureError::TooLarge`] where a side of it is above
-/// 2^31 - 1, [`PictureError::Layout`] where the bit depth of the frame is none of its type of pixels,
-/// [`PictureError::Png`] where a write failed or took nothing, and [`PictureError::OutOfMemory`]. Then the writer is dropped.
+/// The writer is dropped if an error is returned:
+///
+/// - [`PictureError::NoPlane`] if the frame does not have this plane.
+/// - [`PictureError::TooLarge`] if the width or the height of the plane is above 2^31 - 1.
+/// - [`PictureError::Layout`] if the type of pixels does not fit the bit depth of the frame.
+/// - [`PictureError::Png`] if a write failed or wrote no bytes.
+/// - [`PictureError::OutOfMemory`] if there is not enough memory.
 pub fn write_plane_picture<T: Pixel, W: io::Write + Drop>(
     alloc: Global,
     out: W,
@@ -52,7 +56,11 @@ pub fn write_plane_picture<T: Pixel, W: io::Write + Drop>(
     }
 }
 
-/// Writes a plane of a bit depth in gray.
+/// Writes a plane with the bit depth `depth` in gray, and returns the writer.
+///
+/// # Errors
+///
+/// The errors of [`write_plane_picture`], except for [`PictureError::NoPlane`].
 pub(crate) fn write_gray<T: Pixel, W: io::Write + Drop>(
     alloc: Global,
     out: W,
@@ -83,7 +91,7 @@ pub(crate) fn write_gray<T: Pixel, W: io::Write + Drop>(
     }
 }
 
-/// Writes a plane of 8 bits.
+/// Writes a plane with a depth of 8 bits.
 fn write_gray8<T: Pixel, W: io::Write + Drop>(
     alloc: Global,
     out: W,
@@ -107,7 +115,7 @@ fn write_gray8<T: Pixel, W: io::Write + Drop>(
     }
 }
 
-/// Writes a plane of another bit depth in 16 bits.
+/// Writes a plane with another depth, in 16 bits.
 fn write_gray16<T: Pixel, W: io::Write + Drop>(
     alloc: Global,
     out: W,

@@ -1,10 +1,9 @@
-//! Frames as pictures for people, in PNG files: the colors of a frame, one of its planes, or how far two frames are apart.
+//! Pictures of frames in PNG files: the colors of a frame, one of its planes, or the difference of two frames.
 //!
-//! [`write_frame_picture`], [`write_plane_picture`] and [`write_difference_picture`] write to any writer. Their contracts say
-//! that the file decodes to the rows of a table: `Rattle.yuv_pictures.specs.Prelude` has the words. [`differences`] says in
-//! numbers where two frames differ. [`has_sample_above`] says whether a sample is above the greatest value of its bit depth.
-//!
-//! Our own.
+//! [`write_frame_picture`], [`write_plane_picture`] and [`write_difference_picture`] write to any writer. Their contracts state
+//! that the file decodes to the rows of a table; `Rattle.yuv_pictures.specs.Prelude` defines the terms. [`differences`] returns
+//! the places and amounts of the differences of two frames. [`has_sample_above`] returns whether a sample is above the greatest
+//! value of its bit depth.
 #![tactic(auto)]
 
 mod above;

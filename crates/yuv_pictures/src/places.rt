@@ -1,4 +1,4 @@
-//! Where two frames differ, in numbers.
+//! The differences of two frames in numbers.
 ghost use Rattle.std.specs.Prelude.{◌≡◌, None, Option, IfSome, MatchOption, option_map};
 ghost use Rattle.v_frame.specs.Prelude.{table_of, tables_of};
 ghost use Rattle.v_frame_measures.specs.Frames.{size_of};
@@ -11,29 +11,31 @@ use v_frame::plane::Plane;
 use v_frame_measures::{GreatestDifference, count_above, greatest_difference};
 use v_frame_ops::first_difference;
 
-/// What differs in two planes of one size.
+/// The differences of two planes of the same size.
 #[derive(Debug, Clone, Copy, PartialEq, Eq)]
 pub struct PlaneDifference {
-    /// How many samples differ.
+    /// The number of samples that differ.
     pub count: usize,
-    /// The column and the row of the first that does, row after row from the top.
+    /// The column and the row of the first sample that differs, in the order of rows from the top.
     pub first: Option<(usize, usize)>,
-    /// The greatest difference, 0 where none differs, and the first place that has it, row after row from the top.
+    /// The greatest difference and its place: the first one in the order of rows from the top if several are equal. It is 0 if no
+    /// sample differs.
     pub greatest: GreatestDifference,
 }
 
-/// What differs in two frames, plane by plane.
+/// The differences of two frames, plane by plane.
 #[derive(Debug, Clone, Copy, PartialEq, Eq)]
 pub struct Found {
-    /// In luma.
+    /// The differences in luma.
     pub y: PlaneDifference,
-    /// In the first chroma plane, where the frames have it.
+    /// The differences in the first chroma plane, if the frames have it.
     pub u: Option<PlaneDifference>,
-    /// In the second chroma plane, where the frames have it.
+    /// The differences in the second chroma plane, if the frames have it.
     pub v: Option<PlaneDifference>,
 }
 
-/// Returns what differs in two frames whose planes have one size: ask `frames_have_one_size` of `v_frame_measures`.
+/// Returns the differences of two frames. Their planes must have the same sizes, which `frames_have_one_size` of
+/// `v_frame_measures` tests.
 pub fn differences<T: Pixel>(first: &Frame<T>, second: &Frame<T>) -> Found
     requires { HaveOneSize (tables_of first.now) (tables_of second.now) }
     ensures { AreDifferences T.form (tables_of first.now) (tables_of second.now) result }
@@ -45,13 +47,13 @@ pub fn differences<T: Pixel>(first: &Frame<T>, second: &Frame<T>) -> Found
     }
 }
 
-/// Returns what differs in two planes of one size.
+/// Returns the differences of two planes of the same size.
 fn of_planes<T: Pixel>(first: &Plane<T>, second: &Plane<T>) -> PlaneDifference
     requires { size_of (table_of first.now) ≡ size_of (table_of second.now) }
     ensures { IsPlaneDifference T.form (table_of first.now) (table_of second.now) result }
 {
     let (first, second) = (first.as_plane_ref(), second.as_plane_ref());
-    // The planes whose sizes are read are whole.
+    // The planes whose sizes are read are valid.
     let _sizes = (
         first.width(),
         first.height(),
@@ -65,7 +67,7 @@ fn of_planes<T: Pixel>(first: &Plane<T>, second: &Plane<T>) -> PlaneDifference
     }
 }
 
-/// Returns the same of chroma planes, where they are there.
+/// Returns the differences of two chroma planes, if the frames have them.
 fn of_chroma<T: Pixel>(
     first: &Option<Plane<T>>,
     second: &Option<Plane<T>>,

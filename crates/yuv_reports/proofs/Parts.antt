@@ -1,11 +1,11 @@
--- Texts that are put together, one part after the other.
+-- Texts that are appended part by part.
 use Rattle.std.proofs.Common.{◌≡◌, ◌∙◌, ◌++◌, ◌∷◌, ◌+◌, ◌<◌, ℕ, [], List, Result, Ok, Err, ap, append_assoc, is_ok, if◌then◌else◌, length, take}
 use Rattle.std.proofs.Math.ListN.{get_or}
 use Rattle.std.proofs.lemmas.List.{map-append, take_more}
 use Rattle.std.specs.Prelude.{OnOk, map}
 use Rattle.yuv_reports.specs.Texts.{EndsWith}
 
--- a last part, where there was memory for it
+-- The last part is appended if there is enough memory for it.
 pub last_pushed : {A E : Type 0} (result : Result A E) (before new last : List ℕ)
     → new ≡ (if is_ok result then before ++ last else before) → OnOk result (new ≡ before ++ last)
 last_pushed (Ok done) before new last pushed = pushed
@@ -20,7 +20,7 @@ four_parts (Ok done) start a b c d one two three new first second third last =
     last ∙ ap (λ t. t ++ d) (third ∙ ap (λ t. t ++ c) (second ∙ ap (λ t. t ++ b) first))
     ∙ simp append_assoc
 
--- five parts, of which the last four end what was made
+-- Five parts are appended, and the text ends with the last four.
 pub ends_with_four : {A E : Type 0} (result : Result A E) (start a b c d e one two three new : List ℕ)
     → one ≡ start ++ (a ++ b) → two ≡ one ++ c → three ≡ two ++ d
     → new ≡ (if is_ok result then three ++ e else three)
@@ -50,7 +50,7 @@ three_said (Err error) start a b c one two new first second last = tt
 three_said (Ok done) start a b c one two new first second last =
     last ∙ ap (λ t. t ++ c) (second ∙ ap (λ t. t ++ b) first) ∙ simp append_assoc
 
--- three parts around one that is not known
+-- Three parts are appended, of which the middle one is unknown.
 pub around : {A E : Type 0} (result : Result A E) (start front mid end one two new : List ℕ)
     → one ≡ start ++ front → two ≡ one ++ mid → OnOk result (new ≡ two ++ end)
     → OnOk result ((some : List ℕ) × (new ≡ start ++ (front ++ (some ++ end))))
@@ -60,7 +60,7 @@ around (Ok done) start front mid end one two new first second last = (
   last ∙ ap (λ t. t ++ end) (second ∙ ap (λ t. t ++ mid) first) ∙ simp append_assoc,
 )
 
--- a text that is appended whole, of which the end is known, behind another one
+-- A text with a known end is appended to another one.
 pub before_end : {A E : Type 0} (result : Result A E) (start front end one made rest new : List ℕ)
     → one ≡ start ++ front → EndsWith end made → rest ≡ made
     → new ≡ (if is_ok result then one ++ rest else one)
@@ -72,7 +72,7 @@ before_end (Ok done) start front end one made rest new first (some, is) same las
       ∙ append_assoc start front (some ++ end),
 )
 
--- what is made of one more item
+-- A map of one more item.
 pub mapped_more : (f : ℕ → ℕ) (xs : List ℕ) (i d : ℕ) → i < length xs
     → map f (take (i + 1) xs) ≡ map f (take i xs) ++ f (get_or xs i d) ∷ []
 mapped_more f xs i d within =

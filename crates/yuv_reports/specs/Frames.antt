@@ -1,4 +1,4 @@
--- What is said of one frame and of all of them, in each form of a report.
+-- The report on one frame and the report on all frames, in each form.
 use Rattle.std.specs.Prelude.{ℕ, ◌≡◌, ◌∷◌, ◌++◌, [], Bool, true, false, List, Option, Some, None, codes, decimal}
 use Rattle.v_frame_formats.specs.Prelude.{letter_of}
 use Rattle.v_frame_formats.specs.declared.difference.PixelDifference.{PixelDifference}
@@ -12,32 +12,32 @@ use Rattle.yuv_reports.specs.declared.comparison.ReportForm.TheVariants.{Lines, 
 
 -- ---- one frame
 
--- what stands in front of the measures of a frame of this number
+-- The text before the measures of the frame with this number.
 abbrev pub frame_begin : ReportForm → ℕ → List ℕ
 frame_begin Lines number = codes "n:" ++ (decimal number ++ codes " ")
 frame_begin Csv number = decimal number ++ codes ","
 frame_begin Json number = codes "    {\"frame\": " ++ (decimal number ++ codes ", ")
 
--- what stands between a frame and the one before it, or in front of the first one
+-- The text between a frame and the one before it, or before the first frame.
 abbrev pub separator : ReportForm → Bool → List ℕ
 separator Lines first = []
 separator Csv first = []
 separator Json true = 10 ∷ []
 separator Json false = codes "," ++ (10 ∷ [])
 
--- a frame of this number was appended: the number, some measures, and the sums where they are
--- reported
+-- A frame with this number was appended: the number, some measures, and the sums if they are
+-- reported.
 abbrev pub AppendsFrame : ReportForm → ℕ → Option PlaneSums → List ℕ → List ℕ → Type 0
 AppendsFrame form number sums old new =
     (values : List ℕ)
     × (new ≡ old ++ (frame_begin form number ++ (values ++ end_of_frame form sums)))
 
--- the same, after what stands between it and the one before it
+-- The frame was appended after the text that separates it from the one before it.
 abbrev pub AppendsNext : ReportForm → Bool → ℕ → Option PlaneSums → List ℕ → List ℕ → Type 0
 AppendsNext form first number sums old new =
     AppendsFrame form number sums (old ++ separator form first) new
 
--- a text ends with a frame of this number
+-- The text ends with a frame with this number.
 abbrev pub EndsWithFrame : ReportForm → ℕ → Option PlaneSums → List ℕ → Type 0
 EndsWithFrame form number sums text =
     (front : List ℕ) × AppendsFrame form number sums front text
@@ -63,7 +63,7 @@ abbrev pub difference_object : Option (ℕ × PixelDifference) → List ℕ
 difference_object None = codes "null"
 difference_object (Some found) = sample_object found.0 found.1
 
--- the last member, of this value, and the end of the object
+-- The last member of the object, with this value, and the end of the object.
 abbrev pub longer_as : List ℕ → List ℕ
 longer_as value =
     codes "," ++ (10 ∷ (codes "  \"longer\": " ++ (value ++ (10 ∷ (codes "}" ++ (10 ∷ []))))))
@@ -79,13 +79,14 @@ json_end difference longer =
     ++ (10
     ∷ (codes "  \"first_difference\": " ++ (difference_object difference ++ longer_member longer)))
 
--- the count of no frames, and the end of the object
+-- The member for a count of 0, and the end of the object.
 abbrev pub no_frames : List ℕ
 no_frames = codes "  \"count\": 0" ++ (10 ∷ (codes "}" ++ (10 ∷ [])))
 
 -- ---- the end of a report
 
--- what is said of all frames after the last float: of a table nothing, each row of which is a frame
+-- The report on all frames after its last float. A table has no such report, because each of its
+-- rows is a frame.
 abbrev pub end_by_parts : ReportForm → Option PlaneSums → Option (ℕ × PixelDifference)
     → Option Longer
     → List ℕ

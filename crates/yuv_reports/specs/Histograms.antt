@@ -1,16 +1,16 @@
--- A histogram as rows of comma-separated values.
+-- A histogram as comma-separated values.
 use Rattle.std.specs.Prelude.{ℕ, ◌+◌, ◌∷◌, ◌++◌, ◌==◌, [], List, if◌then◌else◌, codes, decimal}
 use Rattle.v_frame_formats.specs.Prelude.{letter_of}
 use Rattle.v_frame_formats.specs.declared.component.Component.{Component}
 
--- the row of a value that occurs so often; of one that never does there is none
+-- The row of a value and its count, or no row if the count is 0.
 abbrev pub histogram_row : Component → ℕ → ℕ → List ℕ
 histogram_row plane value count =
     if count == 0 then []
     else letter_of plane
     ++ (codes "," ++ (decimal value ++ (codes "," ++ (decimal count ++ (10 ∷ [])))))
 
--- the rows of a plane, of whose values these are the counts, from this value on
+-- The rows of a plane. The list has the counts of its values, from `value` on.
 abbrev pub histogram_rows : Component → ℕ → List ℕ → List ℕ
 histogram_rows plane value [] = []
 histogram_rows plane value (count ∷ counts) =

@@ -1,4 +1,4 @@
--- The sums of squared errors in a report, and what is said after them.
+-- The sums of squared errors in a report, and the text after them.
 use Rattle.std.specs.Prelude.{ℕ, ◌∷◌, ◌++◌, [], if◌then◌else◌, Bool, List, Option, Some, None, codes, decimal}
 use Rattle.v_frame_formats.specs.Prelude.{letter_of}
 use Rattle.v_frame_formats.specs.declared.difference.PixelDifference.{PixelDifference}
@@ -9,32 +9,32 @@ use Rattle.yuv_reports.specs.declared.comparison.Longer.TheVariants.{First, Seco
 use Rattle.yuv_reports.specs.declared.comparison.ReportForm.{ReportForm}
 use Rattle.yuv_reports.specs.declared.comparison.ReportForm.TheVariants.{Lines, Csv, Json}
 
--- a number after a text, where there is one
+-- A text and a number, or no text if there is no number.
 abbrev pub number_after : List ℕ → Option ℕ → List ℕ
 number_after before None = []
 number_after before (Some number) = before ++ decimal number
 
--- each sum after its text
+-- Each sum after its text.
 abbrev pub sums_after : List ℕ → List ℕ → List ℕ → PlaneSums → List ℕ
 sums_after y u v sums =
     number_after y (Some sums.y) ++ (number_after u sums.u ++ number_after v sums.v)
 
 -- ---- lines
 
--- the end of the line of a frame: its sums, where they are reported
+-- The end of the line of a frame: its sums if they are reported, and a line feed.
 abbrev pub frame_end : Option PlaneSums → List ℕ
 frame_end None = 10 ∷ []
 frame_end (Some sums) =
     sums_after (codes " sse_y:") (codes " sse_u:") (codes " sse_v:") sums ++ (10 ∷ [])
 
--- the line of the sums of all frames
+-- The line with the sums over all frames.
 abbrev pub sums_line : Option PlaneSums → List ℕ
 sums_line None = []
 sums_line (Some sums) =
     codes "squared errors:"
     ++ (sums_after (codes " Y ") (codes ", U ") (codes ", V ") sums ++ (10 ∷ []))
 
--- the line of the first difference
+-- The line that states the first difference.
 abbrev pub difference_line : Option (ℕ × PixelDifference) → List ℕ
 difference_line None = codes "first difference: none" ++ (10 ∷ [])
 difference_line (Some (frame, found)) =
@@ -49,13 +49,13 @@ difference_line (Some (frame, found)) =
     ++ (codes ", "
     ++ (decimal found.first ++ (codes " and " ++ (decimal found.second ++ (10 ∷ []))))))))))))
 
--- the line that says which stream has more frames
+-- The line that states which stream has more frames.
 abbrev pub longer_line : Option Longer → List ℕ
 longer_line None = []
 longer_line (Some First) = codes "length: the first stream has more frames" ++ (10 ∷ [])
 longer_line (Some Second) = codes "length: the second stream has more frames" ++ (10 ∷ [])
 
--- what is said of all frames after the last float
+-- The report on all frames after its last float.
 abbrev pub comparison_end : Comparison → List ℕ
 comparison_end found =
     sums_line found.measures.sums
@@ -63,7 +63,7 @@ comparison_end found =
 
 -- ---- comma-separated values
 
--- the names of the columns: those of structural similarity and of sums where there are such
+-- The names of the columns. Structural similarity and sums have columns only if they are reported.
 abbrev pub head_row : Bool → Bool → List ℕ
 head_row ssim sums =
     codes "frame,mse,mse_y,mse_u,mse_v,psnr,psnr_y,psnr_u,psnr_v"
@@ -91,13 +91,13 @@ members_end (Some sums) =
 
 -- ---- all forms
 
--- what stands in front of all frames
+-- The beginning of the report, before all frames.
 abbrev pub begin_of : ReportForm → Bool → Bool → List ℕ
 begin_of Lines ssim sums = []
 begin_of Csv ssim sums = head_row ssim sums
 begin_of Json ssim sums = codes "{" ++ (10 ∷ codes "  \"frames\": [")
 
--- the end of what is said of a frame
+-- The end of the report on a frame.
 abbrev pub end_of_frame : ReportForm → Option PlaneSums → List ℕ
 end_of_frame Lines sums = frame_end sums
 end_of_frame Csv sums = row_end sums

@@ -1,8 +1,8 @@
--- Parts of texts. Nothing is known of how a float is written, but of what stands after the last
--- one.
+-- Parts of texts. Contracts do not describe how a float is written, so they state the part of a
+-- text after its last float.
 use Rattle.std.specs.Prelude.{ℕ, ◌≡◌, ◌++◌, List}
 
--- a text begins with another one, or ends with it
+-- The text `text` begins with `first`, or ends with `last`.
 abbrev pub BeginsWith : List ℕ → List ℕ → Type 0
 BeginsWith first text = (rest : List ℕ) × (text ≡ first ++ rest)
 

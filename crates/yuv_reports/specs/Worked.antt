@@ -1,4 +1,4 @@
--- Small cases worked out by hand. Each line computes: it is proved by `refl`.
+-- Examples that were calculated by hand. Each one is proved by computation (`refl`).
 use Rattle.std.specs.Prelude.{◌≡◌, [], Some, None, codes, refl}
 use Rattle.yuv_reports.specs.Samples.{above_said, checksum_word, sum_words}
 use Rattle.yuv_reports.specs.declared.samples.Checksums.TheVariants.{Frame, Planes}
@@ -6,7 +6,7 @@ use Rattle.yuv_reports.specs.declared.samples.Checksums.TheVariants.{Frame, Plan
 none_above : above_said 1023 0 ≡ []
 none_above = refl
 
--- digits in front are written too
+-- Leading zeros are written.
 short_checksum : checksum_word 0xbeef ≡ codes " 0000beef"
 short_checksum = refl
 

@@ -40,7 +40,7 @@ pub fn push_statistics(
     ensures { OnOk result (AppendsStatistics (string_bytes text.old) (string_bytes text.new)
         found.now) }
 {
-    // A text of its own, since nothing is known of one that a float was written to.
+    // The mean is formatted in a separate text, because contracts do not describe a text after a float was written to it.
     let mean = found.mean;
     let mean = format!(in alloc; "{mean:.2}")?;
     push_extremes(text, found)?;
@@ -157,7 +157,7 @@ fn push_chroma(text: &mut String, sums: Option<(u32, u32)>) -> Result<(), AllocE
     }
 }
 
-/// The powers of 16 that the eight hexadecimal digits of 32 bits stand for, the first digit first.
+/// The place values of the eight hexadecimal digits of a number of 32 bits, from the first digit to the last.
 const PLACES: [u32; 8] = [
     0x1000_0000,
     0x100_0000,

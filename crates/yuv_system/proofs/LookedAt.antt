@@ -1,4 +1,4 @@
--- The first bytes of a file, which are looked at before they are read.
+-- The first bytes of a file, which are inspected before they are read.
 use Rattle.std.proofs.Common.{ℕ, ◌≡◌, ◌≤◌, ◌<◌, ◌+◌, ◌-◌, List, [], ◌++◌, length, take, drop, min, Option, Some, None, refl, sym, ◌∙◌, ap, subst, arith, append_assoc, append-nil, length-append, inl, inr, ◌⊎◌, Bool, Result}
 use Rattle.std.specs.Prelude.{◌↔◌, slice_range, IfSome, IsTrue}
 use Rattle.std.specs.Io.KnownBytes.{prepend_known, Consumes, IsAtEnd, Keeps, ReadConsumes}
@@ -10,7 +10,7 @@ use Rattle.yuv_system.specs.InputFiles.{bytes_of_input, bytes_of_reader, BeginsA
 use Rattle.yuv_system.specs.declared.input_file.InputFile.{InputFile}
 
 module _ (first : List ℕ) (given known : ℕ) where
-  -- the bytes from the next one on: those that are taken, and the others
+  -- The unread inspected bytes are the bytes that are taken next, followed by the others.
   parted : (count : ℕ) → given + count ≤ known
       → slice_range first given known ≡ slice_range first given (given + count) ++ slice_range first (given + count) known
   parted count within =
@@ -32,7 +32,7 @@ module _ (first : List ℕ) (given known : ℕ) where
             ap (λ (front : List ℕ). front ++ bytes) (parted count within)
             ∙ append_assoc (slice_range first given (given + count)) (slice_range first (given + count) known) bytes
 
-  -- what is read of the bytes that were looked at: as many as there is room for
+  -- A read returns inspected bytes, up to the length of the buffer.
   module _ (count : ℕ) (buf written : List ℕ) (order : given ≤ known) (some : given ≡ known → ⊥)
       (counted : count ≡ min (length buf) (known - given)) (long : length written ≡ length (take count buf))
       (same : written ≡ slice_range first given (given + count)) where
@@ -58,7 +58,7 @@ module _ (first : List ℕ) (given known : ℕ) where
     none_is_left : slice_range first given known ≡ []
     none_is_left = ap (λ (n : ℕ). take n (drop given first)) {x = known - given} {y = 0} (omega arith)
 
-    -- where none of them is left, what is read comes after them
+    -- If no inspected bytes are left, a read returns the bytes that follow them.
     pub reads_on : {E : Type 0} (old new : Option (List ℕ)) (result : Result ℕ E) (bytes : List ℕ) → ReadConsumes old new result bytes
         → ReadConsumes (prepend_known (slice_range first given known) old)
         (prepend_known (slice_range first given known) new) result bytes
@@ -73,7 +73,7 @@ module _ (first : List ℕ) (given known : ℕ) where
         bare (Some _) None done = done
         bare (Some _) (Some _) done = done
 
-    -- and what is looked at then is still to be read
+    -- Bytes that are then inspected are still to be read.
     module _ (buf : List ℕ) (found : ℕ) where
       pub looked_at : (old new : Option (List ℕ)) → Consumes old new (take found buf)
           → Keeps (prepend_known (slice_range first given known) old) (prepend_known (slice_range buf 0 found) new)
@@ -88,7 +88,7 @@ module _ (first : List ℕ) (given known : ℕ) where
           bare (Some bytes) (Some rest) read =
               ap (λ (n : ℕ). take n buf ++ rest) {x = found - 0} {y = found} (omega arith) ∙ sym read
 
--- the first bytes are those of a stream where the bytes that were read of them, up to nine, are
+-- A file begins with the bytes of a stream if the inspected bytes, up to nine, are these bytes.
 module _ (buf mark : List ℕ) (found : ℕ) (bound : found ≤ length buf) (long : length buf ≡ 9) (nine : length mark ≡ 9) where
   module _ (bytes rest : List ℕ) (read : bytes ≡ take found buf ++ rest) (ends : found < length buf → rest ≡ []) where
     forth : take found buf ≡ mark → take 9 bytes ≡ mark
@@ -117,7 +117,8 @@ module _ (buf mark : List ℕ) (found : ℕ) (bound : found ≤ length buf) (lon
         by_length (inl all) = whole all same
         by_length (inr less) = absurd (too_few less same)
 
-  -- the same where none of the bytes that were looked at before is left
+  -- A file whose inspected bytes have all been read begins as a stream if the bytes inspected next
+  -- do.
   module _ (first : List ℕ) (given known : ℕ) (all : given ≡ known) (yes : Bool) (told : IsTrue yes ↔ (take found buf ≡ mark)) where
     pub begins : (old new : Option (List ℕ)) → Consumes old new (take found buf) → (found < length buf → IsAtEnd new)
         → IfSome (prepend_known (slice_range first given known) old) (λ bytes. IsTrue yes ↔ (take 9 bytes ≡ mark))
@@ -127,7 +128,7 @@ module _ (buf mark : List ℕ) (found : ℕ) (bound : found ≤ length buf) (lon
         subst (λ (front : List ℕ). IsTrue yes ↔ (take 9 (front ++ bytes) ≡ mark)) (sym (none_is_left first given known all))
         (λ is. forth bytes rest read ends (told.0 is), λ same. told.1 (back bytes rest read ends same))
 
--- what was read of the first bytes tells whether the file begins as a stream does
+-- The inspected bytes determine whether a file begins as a stream does.
 pub begins_as : {F I : Type 0} (file : F → Option (List ℕ)) (standard : I → Option (List ℕ)) (input : InputFile F I)
     (buf : List ℕ) (found : ℕ) (is_mark : Bool) (new : Option (List ℕ)) → IsReadOn input → found ≤ length buf → length buf ≡ 9
     → (IsTrue is_mark ↔ (take found buf ≡ signature)) → Consumes (bytes_of_reader file standard input.reader.inner) new (take found buf)

@@ -1,4 +1,4 @@
--- What headers declare, and where two of them disagree.
+-- The properties that headers declare, and those in which two headers differ.
 use Rattle.std.specs.Prelude.{ℕ, ◌*◌, ◌==◌, ◌&&◌, ◌||◌, not, if◌then◌else◌, nat_le, nat_lt, Bool, true, false, List, Option, Some, None, codes, unwrap_or}
 use Rattle.std.specs.List.{list_any}
 use Rattle.std.specs.Str.{bytes_eq}
@@ -13,38 +13,40 @@ use Rattle.v_frame_y4m.specs.declared.header.Ratio.{Ratio}
 use Rattle.v_frame_y4m.specs.declared.header.StreamHeader.{StreamHeader}
 use Rattle.yuv_system.specs.declared.headers.HeaderDifferences.{HeaderDifferences}
 
--- the range of a header that has the extension for the full range or not, and that for the limited
--- range or not
+-- The range that a header declares. The arguments are whether it has the extension for full range,
+-- and whether it has the extension for limited range.
 abbrev pub range_by_marks : Bool → Bool → Option ColorRange
 range_by_marks true false = Some Full
 range_by_marks false true = Some Limited
 range_by_marks _ _ = None
 
--- the range that extensions declare
+-- The range that a list of extensions declares.
 abbrev pub declared_range : List (List ℕ) → Option ColorRange
 declared_range extensions =
     range_by_marks (list_any (bytes_eq (codes "COLORRANGE=FULL")) extensions)
     (list_any (bytes_eq (codes "COLORRANGE=LIMITED")) extensions)
 
--- the range that is used: what an option says, or else the header, or else the limited one
+-- The range that a command uses: the value of its option if given, otherwise the range of the
+-- header, and limited range if the header declares none.
 abbrev pub used_range : Option ColorRange → StreamHeader → ColorRange
 used_range asked header = unwrap_or asked (unwrap_or (declared_range header.extensions) Limited)
 
--- the standard that is used: what an option says, or else BT.601 up to 576 rows and BT.709 above
+-- The standard that a command uses: the value of its option if given, otherwise BT.601 up to 576
+-- rows and BT.709 above.
 abbrev pub matrix_of : Option Standard → StreamHeader → Standard
 matrix_of asked header = unwrap_or asked (if nat_le header.height 576 then Bt601 else Bt709)
 
--- two ranges, if they differ
+-- Two ranges if they differ.
 abbrev pub other_range : ColorRange → ColorRange → Option (ColorRange × ColorRange)
 other_range Limited Limited = None
 other_range Full Full = None
 other_range one other = Some (one, other)
 
--- a 0 stands for a ratio that is unknown
+-- Whether a ratio is known: neither of its numbers is 0.
 abbrev pub is_known : Ratio → Bool
 is_known ratio = nat_lt 0 ratio.numerator && nat_lt 0 ratio.denominator
 
--- two known ratios, if their values differ
+-- Two ratios if both are known and their values differ.
 abbrev pub known_apart : Ratio → Ratio → Option (Ratio × Ratio)
 known_apart one other =
     if not (is_known one) || not (is_known other) then None
@@ -55,7 +57,7 @@ abbrev pub other_ratio : Option Ratio → Option Ratio → Option (Ratio × Rati
 other_ratio (Some one) (Some other) = known_apart one other
 other_ratio _ _ = None
 
--- two stated places of chroma, if they differ
+-- Two positions of chroma samples if both are declared and they differ.
 abbrev pub other_siting : Option ChromaSiting → Option ChromaSiting
     → Option (ChromaSiting × ChromaSiting)
 other_siting (Some Center) (Some Center) = None
@@ -64,7 +66,7 @@ other_siting (Some Alternating) (Some Alternating) = None
 other_siting (Some one) (Some other) = Some (one, other)
 other_siting _ _ = None
 
--- where two headers disagree
+-- The properties in which two headers differ.
 abbrev pub differences_of : StreamHeader → StreamHeader → HeaderDifferences
 differences_of first second =
     record {

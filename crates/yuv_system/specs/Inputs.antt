@@ -1,4 +1,5 @@
--- What is read: a stream with a header line, or raw video as the options say.
+-- The inputs of a command: a stream with a header line, or headerless video in the format that an
+-- option gives.
 use Rattle.std.specs.Prelude.{ℕ, ◌≡◌, ◌/◌, if◌then◌else◌, nat_lt, Bool, true, false, codes, List, [], ◌∷◌, Option, Some, None, IfSome}
 use Rattle.std.specs.Borrow.{MutBor}
 use Rattle.v_frame_y4m.specs.declared.header.StreamHeader.{StreamHeader}
@@ -13,12 +14,12 @@ use Rattle.yuv_system.specs.declared.input_file.InputFile.{InputFile}
 use Rattle.v_frame_formats.specs.Formats.{format_color}
 use Rattle.yuv_words.specs.declared.command.RawVideo.{RawVideo}
 
--- the extension that states full range, as in ffmpeg's streams
+-- The extension that states full range, as ffmpeg writes it.
 abbrev pub range_extensions : Bool → List (List ℕ)
 range_extensions true = codes "COLORRANGE=FULL" ∷ []
 range_extensions false = []
 
--- the header that a stream of this size and format would have
+-- The header that a stream of this size and format would have.
 abbrev pub header_of_raw : RawVideo → StreamHeader
 header_of_raw video =
     record {
@@ -31,10 +32,10 @@ header_of_raw video =
       extensions = range_extensions video.full_range;
     }
 
--- a stream of this file was opened, of which no frame was read yet
+-- A stream of this file was opened, and none of its frames have been read.
 module _ {F I : Type 0} (remaining : InputFile F I → Option (List ℕ)) (file : InputFile F I) where
-  -- it begins as a stream does, its header line was read and says the header, and its frames are
-  -- planar
+  -- The file begins as a stream does, `source` has the header that its header line states, and its
+  -- frames are planar.
   abbrev pub OpensAsY4m : Source (MutBor (InputFile F I)) → Type 0
   OpensAsY4m source =
       IsOpened file.place Y4m source
@@ -44,21 +45,21 @@ module _ {F I : Type 0} (remaining : InputFile F I → Option (List ℕ)) (file 
       source.is_lax
       × (source.layout ≡ None)
 
-  -- it is headerless video of this size and format, all of whose bytes are left
+  -- The file is headerless video of this size and format, and all of its bytes remain.
   abbrev pub OpensAsRaw : RawVideo → Source (MutBor (InputFile F I)) → Type 0
   OpensAsRaw video source =
       IsOpened file.place Raw source
       × (source.header ≡ header_of_raw video) × (source.layout ≡ layout_in (Some video.format))
       × (bytes_left (λ lent. remaining lent.now) source ≡ remaining file)
 
--- a stream was opened as the option `--raw` says
+-- A stream was opened, in the format that the option `--raw` gives if it is given.
 abbrev pub OpensAs : {F I : Type 0} → (InputFile F I → Option (List ℕ)) → Option RawVideo
     → InputFile F I → Source (MutBor (InputFile F I)) → Type 0
 OpensAs remaining None file source = OpensAsY4m remaining file source
 OpensAs remaining (Some video) file source = OpensAsRaw remaining file video source
 
--- the file of this name was opened, and a stream of it as the option `--raw` says, of which these
--- bytes are left
+-- The file with this name was opened as a stream, in the format that the option `--raw` gives if it
+-- is given. The bytes `left` of it remain.
 pub record OpensFile {F I : Type 0} (files : F → Option (List ℕ)) (standard : I → Option (List ℕ))
     (name : List ℕ) (input : Option I) (raw : Option RawVideo) (left : Option (List ℕ))
     (source : Source (MutBor (InputFile F I))) : Type 0 where
@@ -67,12 +68,12 @@ pub record OpensFile {F I : Type 0} (files : F → Option (List ℕ)) (standard 
   pub opened : OpensAs (bytes_of_input files standard) raw file source
   pub are_left : left ≡ bytes_left (λ lent. bytes_of_input files standard lent.now) source
 
--- how many bytes the shortest line in front of a frame has
+-- The length of the shortest line before a frame, in bytes.
 abbrev pub shortest_line : Container → ℕ
 shortest_line Y4m = 6
 shortest_line Raw = 0
 
--- how many frames of so many bytes a file of this length has
+-- The number of frames of `size` bytes in a file of this length.
 abbrev pub expected_of : ℕ → Option ℕ → Option ℕ
 expected_of size None = None
 expected_of size (Some len) = if nat_lt 0 size then Some (len / size) else None

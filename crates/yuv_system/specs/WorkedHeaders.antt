@@ -1,4 +1,4 @@
--- Small cases worked out by hand. Each line computes: it is proved by `refl`.
+-- Examples that were calculated by hand. Each one is proved by computation (`refl`).
 use Rattle.std.specs.Prelude.{◌≡◌, ◌∷◌, [], Some, None, codes, refl}
 use Rattle.v_frame_rgb.specs.declared.standard.ColorRange.TheVariants.{Full, Limited}
 use Rattle.v_frame_y4m.specs.declared.color.ChromaSiting.TheVariants.{Center, Left}
@@ -10,7 +10,7 @@ full_range = refl
 limited_range : declared_range (codes "COLORRANGE=LIMITED" ∷ []) ≡ Some Limited
 limited_range = refl
 
--- a header that says both says neither
+-- A header that declares both ranges counts as declaring none.
 both_ranges : declared_range (codes "COLORRANGE=LIMITED" ∷ codes "COLORRANGE=FULL" ∷ []) ≡ None
 both_ranges = refl
 
@@ -20,7 +20,7 @@ other_word = refl
 ranges_differ : other_range Limited Full ≡ Some (Limited, Full)
 ranges_differ = refl
 
--- 25:1 and 50:2 are one rate, 25:1 and 30:1 two
+-- The rates 25:1 and 50:2 are the same. The rates 25:1 and 30:1 differ.
 one_rate :
     known_apart (record { numerator = 25; denominator = 1 })
     (record { numerator = 50; denominator = 2 })

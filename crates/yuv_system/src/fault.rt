@@ -1,4 +1,4 @@
-//! Why a command gave up.
+//! The errors that end a command.
 ghost use Rattle.std.specs.Prelude.{◌≡◌, ◌↔◌, IsTrue};
 ghost use Rattle.yuv_system.specs.Faults.{place_of, IsBroken};
 
@@ -10,63 +10,63 @@ use v_frame_y4m::{HeaderError, Y4mError};
 use yuv_files::{FileKind, SystemError, TargetError};
 use yuv_pictures::PictureError;
 
-/// What the message adds if a file is not a YUV4MPEG2 stream.
+/// The advice that is added to the message if a file is not a YUV4MPEG2 stream.
 const NOT_A_STREAM: &str =
     "; for headerless video, add --raw WIDTHxHEIGHT:FORMAT; for other files, run 'ffmpeg -i FILE -f yuv4mpegpipe - | yuv COMMAND -'";
 
-/// Why a command gave up.
+/// An error that ends a command.
 #[derive(Drop)]
 pub enum Fault {
-    /// The file of that place can't be opened for reading.
+    /// The file at this place can't be opened for reading.
     Open(Place, io::ErrorKind),
-    /// Standard input is read already.
+    /// The file at this place is standard input, which another file already uses.
     InputTwice(Place),
-    /// The file of that place is read, and written to while it is.
+    /// The file at this place is read, and is also the file that the command writes to.
     ReadAndWritten(Place),
-    /// The file of that place does not begin as a stream does.
+    /// The file at this place does not begin as a YUV4MPEG2 stream does.
     NotAStream(Place),
-    /// The file of that place has no byte, or is a stream that was closed.
+    /// The file at this place is empty, or is a stream that was closed.
     NoBytes(Place),
-    /// The samples of U and V of that place are by turns, so that no plane has bytes of its own.
+    /// The samples of U and V are interleaved in the stream at this place, so no plane has a checksum of its bytes.
     NoPlanes(Place),
     /// The header of a stream was not read.
     Header(StreamError),
-    /// A stream, or what is reported, was not read or not written.
+    /// A stream was not read or written, or a report was not written.
     Stream(StreamError),
-    /// What is reported of a file that was written was not written to standard output.
+    /// The file was written, but the report about it was not written to standard output.
     Report(StreamError),
-    /// The file that is written can't be created.
+    /// The file to write can't be created.
     Create(io::ErrorKind),
-    /// What was written can't be put in its place.
+    /// The file was written, but can't replace its target.
     Replace(io::ErrorKind),
-    /// What was written can't be copied to its place, and a part of it stands there.
+    /// The file was written, but can't be copied to its target. The target then contains a part of it.
     Rewrite(io::ErrorKind),
-    /// The command writes a file of this kind, and the target is rejected.
+    /// The command writes a file of this kind, and rejects its target.
     Target(FileKind, TargetError),
     /// The picture was not written.
     Picture(PictureError),
-    /// No frame of the stream of that place was taken.
+    /// No frame of the stream at this place was taken.
     Nothing(Place, NothingTaken),
-    /// The stream of that place has only so many frames, and a later one is asked for.
+    /// The stream at this place has only this number of frames, and the requested frame comes later.
     NoFrame(Place, u64),
-    /// Frames are counted from 1.
+    /// The requested frame has the number 0, but frames are counted from 1.
     FrameZero,
-    /// A crop of the interlaced stream of that place begins at row `from`, which swaps its fields. The nearest row that does not is
+    /// A crop of the interlaced stream at `place` begins at row `from`, which swaps its fields. The nearest row that does not is
     /// `nearest`.
     SwapsFields {
         /// The stream.
         place: Place,
-        /// The row of the crop.
+        /// The first row of the crop.
         from: usize,
         /// The nearest row that keeps the fields.
         nearest: usize,
     },
-    /// A plane of the stream of that place is smaller than a window of structural similarity.
+    /// A plane of the stream at this place is smaller than a window of structural similarity.
     NoWindow(Place),
 }
 
 impl Fault {
-    /// Returns which file the fault is about. `None` where it is about none.
+    /// Returns the place of the file that the error concerns, or `None` if it concerns no file.
     pub fn place(&self) -> Option<Place>
         ensures { result ≡ place_of self.now }
     {
@@ -122,7 +122,7 @@ impl From<PictureError> for Fault {
     }
 }
 
-// By hand: what is derived of so many variants takes longer to prove than a command.
+// Written by hand: the derived implementation for this many variants takes longer to prove than a command.
 impl fmt::Display for Fault {
     fn fmt<W: fmt::Write>(&self, f: &mut fmt::Formatter<W>) -> fmt::Result {
         match self {
@@ -164,7 +164,7 @@ impl fmt::Display for Fault {
     }
 }
 
-/// Writes what failed, and the error that the system reported.
+/// Writes the action that failed, and the error that the system reported.
 fn write_failed<W: fmt::Write>(
     f: &mut fmt::Formatter<W>,
     what: &str,
@@ -174,7 +174,7 @@ fn write_failed<W: fmt::Write>(
     write!(f, "{what}: {error}")
 }
 
-/// Writes why a command that writes a file of the kind `written` rejects its target, and what to do instead.
+/// Writes the reason why a command that writes a file of the kind `written` rejects its target, and what to do instead.
 fn write_rejection<W: fmt::Write>(
     f: &mut fmt::Formatter<W>,
     written: FileKind,
@@ -199,7 +199,7 @@ fn write_rejection<W: fmt::Write>(
     }
 }
 
-/// Returns what a user should do to get a file of the kind `named` from a command that writes `written`.
+/// Returns advice on how to get a file of the kind `named` from a command that writes files of the kind `written`.
 fn advice_of(written: FileKind, named: FileKind) -> &'static str {
     match (written, named) {
         (FileKind::Png, _) => "name a .png file",
@@ -211,7 +211,7 @@ fn advice_of(written: FileKind, named: FileKind) -> &'static str {
     }
 }
 
-/// What happened to a stream, as a message says it.
+/// An error of a stream, displayed as a message.
 #[derive(Drop)]
 pub struct ShownProblem<'a> {
     /// The error of the stream.
@@ -224,7 +224,7 @@ impl fmt::Display for ShownProblem<'_> {
     }
 }
 
-/// Returns whether a stream that is read breaks off, so that what was found before the frame that cannot be read is reported.
+/// Returns whether a stream breaks off at a frame that cannot be read. The results of the frames before it are then reported.
 pub fn is_broken(error: &StreamError) -> bool
     ensures { IsTrue result ↔ IsBroken error.now }
 {
@@ -235,7 +235,7 @@ pub fn is_broken(error: &StreamError) -> bool
     }
 }
 
-/// Writes what happened to a stream, with the number of the frame where it happened to one.
+/// Writes an error of a stream, preceded by the number of the frame if it concerns a frame.
 fn write_stream_error<W: fmt::Write>(
     f: &mut fmt::Formatter<W>,
     error: &StreamError,
@@ -247,7 +247,7 @@ fn write_stream_error<W: fmt::Write>(
     write_caused(f, error)
 }
 
-/// Returns whether a frame was not read, or not written after others.
+/// Returns whether the error concerns a frame: one that was not read, or one that was not written after others.
 fn is_of_a_frame(error: &StreamError) -> bool {
     match &error.problem {
         Problem::Stream(Y4mError::Header(_)) => false,
@@ -256,7 +256,7 @@ fn is_of_a_frame(error: &StreamError) -> bool {
     }
 }
 
-/// Writes what happened to a stream, what the user can do, and the error that the system reported.
+/// Writes an error of a stream, advice, and the error that the system reported.
 fn write_caused<W: fmt::Write>(f: &mut fmt::Formatter<W>, error: &StreamError) -> fmt::Result {
     fmt::Display::fmt(&error.problem, f)?;
     f.write_str(advice_for(&error.problem))?;
@@ -269,7 +269,7 @@ fn write_caused<W: fmt::Write>(f: &mut fmt::Formatter<W>, error: &StreamError) -
     }
 }
 
-/// Returns what a message adds for the user to do.
+/// Returns the advice that is added to a message, or an empty text if there is none.
 fn advice_for(problem: &Problem) -> &'static str {
     match problem {
         Problem::TooManyPixels(_) => "; --max-pixels N allows more",

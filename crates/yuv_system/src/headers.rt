@@ -1,4 +1,4 @@
-//! What the headers of streams declare: the color range, and whether two headers agree.
+//! The color range that a header declares, and differences between two headers.
 ghost use Rattle.std.specs.Prelude.{◌≡◌, not};
 ghost use Rattle.std.specs.List.{list_any};
 ghost use Rattle.std.specs.Str.{bytes_eq};
@@ -11,11 +11,11 @@ use v_frame_streams::Problem;
 use v_frame_y4m::{ChromaSiting, Ratio, StreamHeader};
 use yuv_files::{shown_name, write_message};
 
-/// The greatest height in rows at which a picture has the colors of BT.601.
+/// The greatest height in rows at which a picture is assumed to have the colors of BT.601.
 const ROWS_OF_BT601: usize = 576;
 
-/// Returns the color range that a header declares by one of ffmpeg's extensions `XCOLORRANGE=FULL` and `XCOLORRANGE=LIMITED`. `None`
-/// if it has neither or both.
+/// Returns the color range that a header declares by one of ffmpeg's extensions `XCOLORRANGE=FULL` and `XCOLORRANGE=LIMITED`, or
+/// `None` if it has neither or both.
 pub fn declared_range(header: &StreamHeader) -> Option<ColorRange>
     ensures { result ≡ range_declared header.now.extensions }
 {
@@ -41,8 +41,8 @@ fn lacks_extension(header: &StreamHeader, text: &[u8]) -> bool
     true
 }
 
-/// Returns the color range that a command uses: `asked`, which an option says, or else that of the header, or else the limited
-/// range.
+/// Returns the color range that a command uses: `asked`, the value of an option, if it is given; otherwise the range that the
+/// header declares, and the limited range if it declares none.
 pub fn used_range(asked: Option<ColorRange>, header: &StreamHeader) -> ColorRange
     ensures { result ≡ range_used asked header.now }
 {
@@ -53,8 +53,9 @@ pub fn used_range(asked: Option<ColorRange>, header: &StreamHeader) -> ColorRang
     }
 }
 
-/// Returns the standard of colors that a command uses: `asked`, which an option says, or else BT.601 for pictures of at most 576
-/// rows, as standard definition has them, and BT.709 for others. Players choose so too if nothing declares a standard.
+/// Returns the color standard that a command uses: `asked`, the value of an option, if it is given; otherwise BT.601 for pictures
+/// of at most 576 rows, which are standard definition, and BT.709 for higher ones. Players make the same choice if nothing
+/// declares a standard.
 pub fn used_matrix(asked: Option<Standard>, header: &StreamHeader) -> Standard
     ensures { result ≡ matrix_of asked header.now }
 {
@@ -65,7 +66,7 @@ pub fn used_matrix(asked: Option<Standard>, header: &StreamHeader) -> Standard
     }
 }
 
-/// Returns the word that the option `--range` has for a color range.
+/// Returns the name of a color range, as the option `--range` takes it.
 pub fn range_name(range: ColorRange) -> &'static str {
     match range {
         ColorRange::Limited => "limited",
@@ -73,7 +74,7 @@ pub fn range_name(range: ColorRange) -> &'static str {
     }
 }
 
-/// Returns the word that the option `--matrix` has for a standard.
+/// Returns the name of a color standard, as the option `--matrix` takes it.
 pub fn matrix_name(standard: Standard) -> &'static str {
     match standard {
         Standard::Bt601 => "bt601",
@@ -82,20 +83,20 @@ pub fn matrix_name(standard: Standard) -> &'static str {
     }
 }
 
-/// Where two headers disagree: the values of the first and of the second.
+/// The properties in which two headers differ: for each one, the value of the first header and the value of the second.
 #[derive(Debug, Clone, Copy, PartialEq, Eq)]
 pub struct HeaderDifferences {
-    /// The color ranges, of which one that is not declared is the limited range.
+    /// The color ranges. A range that is not declared counts as limited.
     pub range: Option<(ColorRange, ColorRange)>,
     /// The frames per second, if both are known.
     pub rate: Option<(Ratio, Ratio)>,
     /// The pixel aspect ratios, if both are known.
     pub aspect: Option<(Ratio, Ratio)>,
-    /// The places of chroma, if both are stated.
+    /// The positions of chroma samples, if both headers declare them.
     pub siting: Option<(ChromaSiting, ChromaSiting)>,
 }
 
-/// Returns where two headers disagree on what a comparison of their samples does not show.
+/// Returns the properties in which two headers differ, of those that a comparison of samples does not show.
 pub fn header_differences(first: &StreamHeader, second: &StreamHeader) -> HeaderDifferences
     ensures { result ≡ differences_of first.now second.now }
 {
@@ -107,7 +108,7 @@ pub fn header_differences(first: &StreamHeader, second: &StreamHeader) -> Header
     }
 }
 
-/// Returns two color ranges if they differ.
+/// Returns the two color ranges if they differ, and `None` otherwise.
 fn other_range(first: ColorRange, second: ColorRange) -> Option<(ColorRange, ColorRange)>
     ensures { result ≡ ranges_apart first second }
 {
@@ -117,7 +118,8 @@ fn other_range(first: ColorRange, second: ColorRange) -> Option<(ColorRange, Col
     Some((first, second))
 }
 
-/// Returns two ratios if both are known and they differ in value, as 25:1 and 50:2 do not.
+/// Returns the two ratios if both are known and their values differ, and `None` otherwise. The ratios 25:1 and 50:2 have the same
+/// value.
 fn other_ratio(first: Option<Ratio>, second: Option<Ratio>) -> Option<(Ratio, Ratio)>
     ensures { result ≡ ratios_apart first second }
 {
@@ -135,14 +137,14 @@ fn other_ratio(first: Option<Ratio>, second: Option<Ratio>) -> Option<(Ratio, Ra
     Some((one, other))
 }
 
-/// Returns whether a ratio has no 0, which stands for one that is unknown.
+/// Returns whether a ratio is known. A ratio with a 0 is unknown.
 fn is_known(ratio: &Ratio) -> bool
     ensures { result ≡ Rattle.yuv_system.specs.Headers.is_known ratio.now }
 {
     ratio.numerator > 0 && ratio.denominator > 0
 }
 
-/// Returns two places of chroma if both are stated and they differ.
+/// Returns the two positions of chroma samples if both are declared and they differ, and `None` otherwise.
 fn other_siting(
     first: Option<ChromaSiting>,
     second: Option<ChromaSiting>,
@@ -155,7 +157,7 @@ fn other_siting(
     }
 }
 
-/// Writes a message for each property on which two headers disagree.
+/// Writes a message for each property in which two headers differ.
 pub fn write_differences<E: io::Write>(messages: &mut E, found: &HeaderDifferences) {
     if let Some((one, other)) = found.range {
         let (one, other) = (range_name(one), range_name(other));
@@ -173,8 +175,8 @@ pub fn write_differences<E: io::Write>(messages: &mut E, found: &HeaderDifferenc
     }
 }
 
-/// Writes a message with the sizes, the chroma formats and the bit depths of two streams, as far as they differ. Such streams are not
-/// compared.
+/// Writes a message for each of these properties in which two streams differ: size, chroma format and bit depth. Streams that
+/// differ in one of them are not compared.
 pub fn write_formats<E: io::Write>(messages: &mut E, first: &StreamHeader, second: &StreamHeader) {
     let (one, other) = (size_of(first), size_of(second));
     if one.width != other.width || one.height != other.height {
@@ -191,7 +193,7 @@ pub fn write_formats<E: io::Write>(messages: &mut E, first: &StreamHeader, secon
     }
 }
 
-/// Writes a message with the size of the pictures of a stream, if an error is that a crop is not inside them.
+/// Writes a message with the size of the pictures of a stream, if the error is that a crop is not inside them.
 pub fn write_size_of_crop<E: io::Write>(
     messages: &mut E,
     name: &str,
@@ -250,13 +252,13 @@ impl fmt::Display for PictureSize {
     }
 }
 
-/// Writes a message on two ratios.
+/// Writes a message that a ratio, for example the frame rate, differs between two streams.
 fn write_ratios<E: io::Write>(messages: &mut E, property: &str, one: Ratio, other: Ratio) {
     let (one, other) = (ShownRatio { ratio: one }, ShownRatio { ratio: other });
     write_disagreement(messages, property, &one, &other);
 }
 
-/// Writes a message on two values.
+/// Writes a message that two streams have different values of a property.
 fn write_disagreement<E: io::Write, D: fmt::Display>(
     messages: &mut E,
     property: &str,
@@ -274,7 +276,7 @@ fn write_disagreement<E: io::Write, D: fmt::Display>(
     );
 }
 
-/// Returns the place of chroma in a word.
+/// Returns the name of a position of chroma samples.
 fn siting_name(siting: ChromaSiting) -> &'static str {
     match siting {
         ChromaSiting::Center => "center",
@@ -283,7 +285,7 @@ fn siting_name(siting: ChromaSiting) -> &'static str {
     }
 }
 
-/// A ratio as a header has it.
+/// A ratio in the form of a header, as 25:1.
 #[derive(Clone, Copy)]
 struct ShownRatio {
     ratio: Ratio,
@@ -299,7 +301,7 @@ impl fmt::Display for ShownRatio {
     }
 }
 
-/// Two values of a property.
+/// A message that two streams have different values of a property.
 #[derive(Clone, Copy)]
 struct Disagreement<'a, D> {
     property: &'a str,

@@ -1,4 +1,4 @@
-//! What a command reads of a file: its header, or none of headerless raw video.
+//! The input of a command: the header of a YUV4MPEG2 stream, or headerless video.
 ghost use Rattle.std.specs.Prelude.{◌≡◌, ◌≤◌, ◌+◌, ◌-◌, ◌^◌, Some, min, IfErr, IfOk, IfSome};
 ghost use Rattle.yuv_system.specs.InputFiles.{bytes_of_input, BeginsAsAStream, IsReadOn};
 ghost use Rattle.yuv_system.specs.Inputs.{expected_of, header_of_raw, shortest_line, OpensAs, OpensAsRaw, OpensAsY4m};
@@ -19,12 +19,13 @@ use v_frame_y4m::{StreamHeader, header_line};
 use yuv_files::{LaxHeader, is_stream_file, shown_name, write_message};
 use yuv_words::RawVideo;
 
-/// Reads the header of an open file, or takes the header of headerless video. If the header line is not strict, a warning states how it
-/// is read. If headerless video begins as a YUV4MPEG2 stream does, a warning says so.
+/// Reads the header of an open file, or makes the header of headerless video from its options. If the header line is not strictly
+/// valid, a warning states how it is read. Another warning is written if headerless video begins as a YUV4MPEG2 stream does.
 ///
 /// # Errors
 ///
-/// [`Fault::NoBytes`] and [`Fault::NotAStream`] where no stream begins there, and [`Fault::Header`] where its header can't be read.
+/// [`Fault::NoBytes`] if the file is empty, [`Fault::NotAStream`] if it does not begin as a stream does, and [`Fault::Header`] if
+/// its header can't be read.
 pub fn begin<'f, H: Files + AllocGlobal + Clock, F: Read, I: Read, O, E: io::Write>(
     system: &mut System<'_, H, I, O, E>,
     name: &str,
@@ -60,7 +61,7 @@ pub fn begin<'f, H: Files + AllocGlobal + Clock, F: Read, I: Read, O, E: io::Wri
     Ok(source)
 }
 
-/// Reads the header of a file that is open, or takes that of headerless raw video.
+/// Reads the header of an open file, or makes the header of headerless video from its options.
 fn begin_stream<F: Read, I: Read>(
     alloc: Global,
     file: &mut InputFile<F, I>,
@@ -75,7 +76,7 @@ fn begin_stream<F: Read, I: Read>(
     }
 }
 
-/// Takes a file that is open as headerless raw video.
+/// Reads an open file as headerless video.
 fn begin_raw<F: Read, I: Read>(
     alloc: Global,
     file: &mut InputFile<F, I>,
@@ -93,7 +94,7 @@ fn begin_raw<F: Read, I: Read>(
     }
 }
 
-/// Reads the header line of a file that is open.
+/// Reads the header line of an open file.
 fn begin_y4m<F: Read, I: Read>(
     alloc: Global,
     file: &mut InputFile<F, I>,
@@ -117,7 +118,7 @@ fn begin_y4m<F: Read, I: Read>(
     }
 }
 
-/// Returns the layout of a format whose chroma samples are by turns.
+/// Returns the layout of a format whose chroma samples are interleaved, or `None` for other formats.
 fn layout_of(format: VideoFormat) -> Option<SemiPlanarFormat>
     ensures { result ≡ layout_in (Some format) }
 {
@@ -147,7 +148,8 @@ fn raw_header(alloc: Global, raw: &RawVideo) -> Result<StreamHeader, AllocError>
     })
 }
 
-/// Returns how many frames a file of this length has, where the lines in front of them are the shortest.
+/// Returns the number of frames that a file of `len` bytes has if the line before each frame is as short as possible, or `None`
+/// if the length is unknown.
 pub fn expected_frames<R: Read>(source: &Source<R>, len: Option<u64>) -> Option<u64>
     ensures { result ≡ expected_of (min (source.now.frame_len
         + shortest_line source.now.container) (2 ^ 64 - 1)) len }

@@ -1,4 +1,4 @@
-//! Files by their names, and standard input.
+//! Files that are opened by name, and standard input.
 ghost use Rattle.std.specs.Prelude.{◌≡◌, ◌≤◌, ◌==◌, ◌↔◌, IfOk, IsTrue};
 ghost use Rattle.v_frame_y4m.specs.Header.{signature};
 
@@ -8,10 +8,10 @@ use v_frame_planar::{Counted, read_until_full};
 use v_frame_streams::{Place, Problem, StreamError};
 use v_frame_y4m::Y4mError;
 
-/// How a stream of YUV4MPEG2 begins.
+/// The first bytes of a YUV4MPEG2 stream.
 const MAGIC: &[u8] = b"YUV4MPEG2";
 
-/// The first bytes of a file that are looked at.
+/// The number of bytes at the beginning of a file that are inspected before they are read.
 const FIRST: usize = 9;
 
 /// A file or standard input, for reading.
@@ -34,14 +34,15 @@ impl<F: Read, I: Read> Read for Reader<F, I> {
     }
 }
 
-/// A file or standard input that is read, whose first bytes can be looked at before.
+/// A file or standard input for reading, whose first bytes can be inspected before they are read.
 #[derive(Drop)]
 pub struct InputFile<F, I> {
-    /// Which file of the command it is.
+    /// The place of the file among the files of the command.
     pub(crate) place: Place,
     reader: Counted<Reader<F, I>>,
     first: [u8; FIRST],
-    /// How many bytes of `first` were read, and how many of these were given on.
+    /// `known` is the number of bytes of `first` that were read from the file, and `given` is the number of those that were
+    /// passed on.
     known: usize,
     given: usize,
     ghost room: { known ≤ 9 },
@@ -69,7 +70,7 @@ impl<F: Read, I: Read> InputFile<F, I> {
     ghost use Rattle.std.specs.Io.KnownBytes.{Keeps};
     ghost use Rattle.yuv_system.specs.InputFiles.{bytes_of_input, bytes_of_reader, BeginsAsAStream, IsReadOn};
 
-    /// Returns the file of a reader, of which nothing was read.
+    /// Returns the file of a reader from which nothing was read.
     pub(crate) fn new(place: Place, reader: Reader<F, I>) -> Self
         ensures unread { IsReadOn result }
         ensures place { result.place ≡ place }
@@ -85,7 +86,11 @@ impl<F: Read, I: Read> InputFile<F, I> {
         }
     }
 
-    /// Looks at the first bytes, and returns whether a stream begins so. They are still to be read then.
+    /// Inspects the first bytes, and returns whether a YUV4MPEG2 stream begins with them. A later read still returns them.
+    ///
+    /// # Errors
+    ///
+    /// The error of the reader.
     #[tactic(auto, using(crate::proofs::LookedAt::begins_as, crate::proofs::LookedAt::looked_at))]
     pub(crate) fn begins_as_a_stream(&mut self) -> Result<bool, StreamError>
         requires { IsReadOn self.old }
@@ -115,7 +120,7 @@ impl<F: Read, I: Read> InputFile<F, I> {
 }
 
 impl<F, I> InputFile<F, I> {
-    /// Returns whether none of the first bytes is there, where these were looked at.
+    /// Returns whether the file has no bytes, after its first bytes were inspected.
     pub(crate) fn has_no_bytes(&self) -> bool
         ensures { result ≡ (self.now.known == 0) }
     {
@@ -123,7 +128,7 @@ impl<F, I> InputFile<F, I> {
     }
 }
 
-/// Returns whether these are the bytes that a stream begins with.
+/// Returns whether these are the bytes with which a YUV4MPEG2 stream begins.
 fn is_magic(bytes: &[u8]) -> bool
     ensures { IsTrue result ↔ bytes.now ≡ signature }
 {
@@ -131,7 +136,7 @@ fn is_magic(bytes: &[u8]) -> bool
 }
 
 impl<F: OpenFile, I> InputFile<F, I> {
-    /// Returns how many bytes the file has. `None` where it is no regular file.
+    /// Returns the length of the file in bytes, or `None` if it is not a regular file.
     pub fn len(&self) -> Option<u64> {
         match self.reader.get_ref() {
             Reader::File(file) => match file.metadata() {

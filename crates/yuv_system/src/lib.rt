@@ -1,5 +1,5 @@
-//! What every command of `yuv` has of its system: what it reads, what it writes to, and the line of `--progress`; what its options
-//! ask of streams; why it gives up, and how it ends.
+//! The parts that the commands of `yuv` share: input files, output files, the line of `--progress`, the options for streams,
+//! errors, and exit statuses.
 #![tactic(auto)]
 
 mod above;

@@ -1,4 +1,4 @@
-//! The frame that `--frame` names.
+//! Reads the frame that `--frame` requests.
 ghost use Rattle.std.specs.Prelude.{◌≡◌, ◌+◌, IfErr, IfOk, OnOk, Some, unwrap_or};
 ghost use Rattle.v_frame.specs.Prelude.{tables_of};
 ghost use Rattle.v_frame_planar.specs.Planar.{sizes_of};
@@ -10,11 +10,11 @@ use std::io;
 use v_frame::pixel::Pixel;
 use v_frame_streams::{Picture, Place, Source};
 
-/// Returns how many frames stand before the one of this number, which is 1 where nobody says.
+/// Returns the number of frames before the frame `number`, which is 1 if it is not given.
 ///
 /// # Errors
 ///
-/// [`Fault::FrameZero`] where the number is 0.
+/// [`Fault::FrameZero`] if the number is 0.
 pub fn frames_before(number: Option<u64>) -> Result<u64, Fault>
     ensures before { IfOk result (λ before. before + 1 ≡ unwrap_or number 1) }
     ensures zero { IfErr result (λ _. number ≡ Some 0) }
@@ -25,11 +25,11 @@ pub fn frames_before(number: Option<u64>) -> Result<u64, Fault>
     }
 }
 
-/// Passes over so many frames of a stream, and reads the next one into a picture.
+/// Skips `before` frames of a stream, and reads the next one into a picture.
 ///
 /// # Errors
 ///
-/// [`Fault::NoFrame`], with `place`, where the stream has no more than those, and [`Fault::Stream`] where a frame was not read.
+/// [`Fault::NoFrame`] with `place` if the stream has no more than `before` frames, and [`Fault::Stream`] if a frame was not read.
 pub fn read_behind<T: Pixel, R: io::Read>(
     source: &mut Source<R>,
     picture: &mut Picture<T>,

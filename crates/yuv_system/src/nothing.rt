@@ -1,4 +1,4 @@
-//! Why a command found no frame to work on.
+//! The reason why a command took no frame.
 ghost use Rattle.std.specs.Prelude.{◌≡◌, ◌<◌, unwrap_or, IfErr, OnOk};
 ghost use Rattle.yuv_system.specs.Nothing.{nothing_of, shorter};
 
@@ -8,19 +8,19 @@ use v_frame_streams::{CompareOptions, Comparison, Place, Source};
 use yuv_files::{shown_name, write_message};
 use yuv_words::Options;
 
-/// What a stream has, and what was asked of it, where none of its frames was taken.
+/// The number of frames of a stream, and the options that selected none of them.
 #[derive(Debug, Clone, Copy, PartialEq, Eq)]
 pub struct NothingTaken {
-    /// How many frames the stream has.
+    /// The number of frames that the stream has.
     pub frames: u64,
-    /// How many are passed over.
+    /// The number of frames that are skipped.
     pub skip: u64,
-    /// How many are taken then. All that are left, where it is missing.
+    /// The largest number of frames to take after them. If it is `None`, all remaining frames are taken.
     pub count: Option<u64>,
 }
 
 impl NothingTaken {
-    /// Returns why no frame was taken, where so many are none.
+    /// Returns the reason why no frame was taken, or `None` if `taken` is above 0.
     pub fn of(taken: u64, frames: u64, skip: u64, count: Option<u64>) -> Option<Self>
         ensures { result ≡ nothing_of taken frames skip count }
     {
@@ -52,25 +52,26 @@ impl fmt::Display for NothingTaken {
     }
 }
 
-/// Returns why no frame was taken, where so many of a stream of so many are none.
+/// Returns the reason why no frame was taken of a stream of `frames` frames, or `None` if `taken` is above 0.
 pub fn nothing_taken(options: &Options, taken: u64, frames: u64) -> Option<NothingTaken>
     ensures { result ≡ nothing_of taken frames (unwrap_or options.now.skip 0) options.now.count }
 {
     NothingTaken::of(taken, frames, options.skip.unwrap_or(0), options.count)
 }
 
-/// Says of a file why no frame of it was taken, where none was.
+/// Writes the reason why no frame of a file was taken, or nothing if frames were taken.
 pub fn write_nothing<E: io::Write>(messages: &mut E, name: &str, nothing: Option<NothingTaken>) {
     if let Some(nothing) = nothing {
         write_message(messages, Some(shown_name(name)), &nothing);
     }
 }
 
-/// Tests whether frames were compared. Where none was, the fault is about the stream that came to its end, or about the first one.
+/// Tests whether any frames were compared. If none were, the error concerns the stream that ended, or the first stream if both
+/// did.
 ///
 /// # Errors
 ///
-/// [`Fault::Nothing`] where none was.
+/// [`Fault::Nothing`] if no frames were compared.
 pub fn test_compared<R: io::Read, S: io::Read>(
     found: &Comparison,
     first: &Source<R>,

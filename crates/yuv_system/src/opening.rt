@@ -1,4 +1,4 @@
-//! Files opened by their names.
+//! Opens files by name.
 ghost use Rattle.std.specs.Prelude.{◌≡◌, ◌≢◌, codes, IfOk, None, OnOk};
 ghost use Rattle.yuv_system.specs.InputFiles.{bytes_of_input, IsInputOf, IsReadOn};
 
@@ -10,12 +10,13 @@ use std::rt::Files;
 use v_frame_streams::Place;
 use yuv_files::{STANDARD_OUTPUT, is_read};
 
-/// Opens a file for reading, or takes standard input for `-`. The file behind standard output is refused: it would grow by what
-/// is written of it.
+/// Opens a file for reading, or takes standard input for the name `-`. The file that standard output writes to is rejected: it
+/// would grow while it is read.
 ///
 /// # Errors
 ///
-/// [`Fault::ReadAndWritten`] for that one, [`Fault::InputTwice`] where standard input was taken, and [`Fault::Open`].
+/// [`Fault::ReadAndWritten`] if standard output writes to the file, [`Fault::InputTwice`] if standard input was already taken,
+/// and [`Fault::Open`] if the file can't be opened.
 pub fn open_file<H: Files<File = F>, F: Read, I: Read>(
     rt: &H,
     name: &str,

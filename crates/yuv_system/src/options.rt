@@ -1,4 +1,4 @@
-//! What the options of a command ask of the streams.
+//! Translates the options of a command into options for streams.
 ghost use Rattle.std.specs.Prelude.{◌≡◌, ◌*◌, ◌<◌, ◌≤◌, IfErr, OnOk};
 ghost use Rattle.yuv_system.specs.Options.{comparison_of, copy_of, most_pixels as most, sink_container, taken_of, ExceedsLimit, KeepsLimit};
 
@@ -6,7 +6,7 @@ use std::io::Write;
 use v_frame_streams::{Container, MAX_PIXELS, Place, Problem, Sink, StreamError};
 use v_frame_y4m::StreamHeader;
 
-/// Returns the most pixels of luma that a picture may have.
+/// Returns the largest number of luma pixels that a picture may have: `asked`, or the number of pixels of 7680x4320.
 pub fn most_pixels(asked: Option<u64>) -> usize
     ensures { result ≡ most asked }
 {
@@ -16,7 +16,7 @@ pub fn most_pixels(asked: Option<u64>) -> usize
     }
 }
 
-/// Returns what a copy takes of a stream, and what it makes of its frames.
+/// Returns the options of a copy: the frames to take from the stream, and the changes to make to them.
 pub fn stream_copy(options: &yuv_words::Options) -> v_frame_streams::CopyOptions
     ensures { result ≡ copy_of options.now }
 {
@@ -32,7 +32,7 @@ pub fn stream_copy(options: &yuv_words::Options) -> v_frame_streams::CopyOptions
     }
 }
 
-/// Returns the stream that a copy writes.
+/// Returns the stream to which a copy writes.
 pub fn copy_sink<W: Write>(options: &yuv_words::Options, writer: W) -> Sink<W>
     ensures container { result.container ≡ sink_container options.now }
     ensures writer { result.writer.inner ≡ writer }
@@ -46,7 +46,7 @@ pub fn copy_sink<W: Write>(options: &yuv_words::Options, writer: W) -> Sink<W>
     Sink::new(container, writer)
 }
 
-/// Returns what a comparison takes of two streams.
+/// Returns the options of a comparison of two streams.
 pub fn stream_comparison(options: &yuv_words::Options) -> v_frame_streams::CompareOptions
     ensures { result ≡ comparison_of options.now }
 {
@@ -58,7 +58,7 @@ pub fn stream_comparison(options: &yuv_words::Options) -> v_frame_streams::Compa
     )
 }
 
-/// Returns what is taken of two streams.
+/// Returns the options for reading two streams. If `skip_second` is `None`, `skip` applies to both streams.
 pub fn taken_of_both(
     skip: Option<u64>,
     skip_second: Option<u64>,
@@ -76,11 +76,11 @@ pub fn taken_of_both(
     }
 }
 
-/// Tests whether pictures of a header have no more pixels of luma than are asked for, where a limit is.
+/// Tests whether the pictures of a header have at most `asked` luma pixels. If `asked` is `None`, any number is accepted.
 ///
 /// # Errors
 ///
-/// [`Problem::TooManyPixels`] where they have more.
+/// [`Problem::TooManyPixels`] if they have more.
 pub fn test_limit(
     header: &StreamHeader,
     place: Place,
@@ -95,11 +95,11 @@ pub fn test_limit(
     }
 }
 
-/// Tests whether pictures of a header have no more than so many pixels of luma.
+/// Tests whether the pictures of a header have at most `most` luma pixels.
 ///
 /// # Errors
 ///
-/// [`Problem::TooManyPixels`] where they have more.
+/// [`Problem::TooManyPixels`] if they have more.
 pub fn test_pixels(header: &StreamHeader, place: Place, most: usize) -> Result<(), StreamError>
     ensures ok { OnOk result (header.now.width * header.now.height ≤ most) }
     ensures refused { IfErr result (λ _. most < header.now.width * header.now.height) }

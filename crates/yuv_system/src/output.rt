@@ -1,4 +1,4 @@
-//! What a command writes to: a file that replaces its target, or standard output.
+//! The output of a command: a file that replaces its target, or standard output.
 ghost use Rattle.std.specs.Prelude.{◌≡◌, ◌↔◌, Ok, IfOk, IsTrue};
 ghost use Rattle.yuv_system.specs.Outputs.{IsStandardOutput};
 
@@ -12,24 +12,25 @@ use yuv_files::{
     write_message,
 };
 
-/// A file that a command writes, as its call names it.
+/// A file that a command writes.
 #[derive(Clone, Copy)]
 pub struct Target<'a> {
-    /// The name. `-` is standard output.
+    /// The name of the file. The name `-` is standard output.
     pub name: &'a str,
     /// The kind of file that the command writes.
     pub written: FileKind,
     /// The names of the files that the command reads.
     pub inputs: &'a [&'a str],
-    /// Whether `--force` is given, so that the target is written whatever it is.
+    /// Whether `--force` is given: the target is then written even if it would otherwise be rejected.
     pub is_forced: bool,
 }
 
-/// Tests whether a command may write a target, before anything is read. Standard output takes any kind of file.
+/// Tests whether a command may write a target, before any file is read. Standard output takes files of all kinds.
 ///
 /// # Errors
 ///
-/// [`Fault::Target`] if [`check_target`] rejects the target, and [`Fault::Create`] if its name leads nowhere.
+/// [`Fault::Target`] if [`check_target`] rejects the target, and [`Fault::Create`] if its name has too many symbolic links or
+/// there is not enough memory.
 pub fn test_target<H: Files + AllocGlobal>(rt: &H, target: &Target<'_>) -> Result<(), Fault> {
     if is_standard_output(target.name) {
         return Ok(());
@@ -44,7 +45,7 @@ pub fn test_target<H: Files + AllocGlobal>(rt: &H, target: &Target<'_>) -> Resul
     }
 }
 
-/// A file, or standard output.
+/// A file or standard output, for writing.
 #[derive(Drop)]
 pub enum Output<'a, F, O> {
     /// A file that replaces its target.
@@ -76,8 +77,8 @@ impl<F: Write + OpenFile, O: Write> Write for Output<'_, F, O> {
     }
 }
 
-/// Returns whether a name is that of standard output, `-` or one that the system has for it. What stands behind the latter may be
-/// a file that others write too, so it is not opened anew.
+/// Returns whether a name is `-` or one of the system's names for standard output. A command never opens standard output by name,
+/// because other programs may be writing to the same file.
 pub fn is_standard_output(name: &str) -> bool
     ensures { IsTrue result ↔ IsStandardOutput name.now }
 {
@@ -85,13 +86,13 @@ pub fn is_standard_output(name: &str) -> bool
 }
 
 impl<'a, F: OpenFile + SystemFile + Drop, O> Output<'a, F, O> {
-    /// Opens a target that [`test_target`] accepted, or takes standard output for a name of it. A target that is written where it
-    /// stands must not be one of the files that are read. A message says what of a target can't be kept.
+    /// Opens a target that [`test_target`] accepted, or takes standard output if the target has one of its names. A target that
+    /// can't be replaced, but only overwritten, must not be one of the input files. A message warns if the owner or the group of
+    /// the target is not kept, or if the target would be lost if the command failed.
     ///
     /// # Errors
     ///
-    /// [`Fault::Create`] if no file can be made, and [`Fault::ReadAndWritten`] if a file that is read would be written where it
-    /// stands.
+    /// [`Fault::Create`] if no file can be created, and [`Fault::ReadAndWritten`] if an input file would be overwritten.
     pub fn open<H: Files<File = F> + AllocGlobal, E: Write>(
         rt: &H,
         target: &Target<'_>,
@@ -115,11 +116,12 @@ impl<'a, F: OpenFile + SystemFile + Drop, O> Output<'a, F, O> {
         Ok(Output::File(file))
     }
 
-    /// Puts a file in the place of its target where all of it was written, and else removes it.
+    /// Replaces the target with the file if `done` is a success, and removes the file otherwise.
     ///
     /// # Errors
     ///
-    /// The fault of what was done, and [`Fault::Replace`] and [`Fault::Rewrite`] where the file can't be put there.
+    /// The error of `done`; [`Fault::Replace`] if the target can't be replaced, and [`Fault::Rewrite`] if it can't be
+    /// overwritten.
     pub fn settle<H: Files<File = F>, T: Drop>(
         self,
         rt: &H,

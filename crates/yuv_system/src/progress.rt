@@ -1,4 +1,4 @@
-//! The count of frames, shown while a stream is read.
+//! The frame count that is shown while a stream is read.
 ghost use Rattle.std.specs.Prelude.{◌≡◌};
 ghost use Rattle.yuv_system.specs.ProgressLines.{TakesCount};
 
@@ -7,10 +7,10 @@ use std::time::{Clock, Instant};
 use std::{fmt, io};
 use v_frame_streams::Progress;
 
-/// How many milliseconds pass at least from one count that is shown to the next.
+/// The shortest time between two counts that are shown, in milliseconds.
 const PAUSE: u128 = 100;
 
-/// A line for people that says how many frames are done.
+/// A line on standard error with the number of frames that are done.
 #[derive(Drop)]
 pub struct ProgressLine<'a, H, E> {
     clock: &'a H,
@@ -20,12 +20,12 @@ pub struct ProgressLine<'a, H, E> {
     begin: Option<Instant>,
     frames: u64,
     last_shown: u128,
-    /// How many characters the line has that is shown.
+    /// The number of characters of the line that is shown.
     length: usize,
 }
 
 impl<'a, H: Clock, E: io::Write> ProgressLine<'a, H, E> {
-    /// Returns a line of which these counts are shown from now on.
+    /// Returns a line that shows the counts that `shown` selects.
     pub fn new(clock: &'a H, out: E, shown: Shown) -> Self
         ensures shown { result.shown ≡ shown }
         ensures out { result.out ≡ out }
@@ -42,19 +42,19 @@ impl<'a, H: Clock, E: io::Write> ProgressLine<'a, H, E> {
         }
     }
 
-    /// Takes how many frames there will be, where that is known.
+    /// Sets the number of frames that are expected, or `None` if it is unknown.
     pub fn expect(&mut self, frames: Option<u64>)
         ensures { self.new ≡ record self.old { expected = frames } }
     {
         self.expected = frames;
     }
 
-    /// Returns where the line is shown.
+    /// Returns the writer to which the line is written.
     pub fn out(&mut self) -> &mut E {
         &mut self.out
     }
 
-    /// Shows the last count, and ends the line, which is not shown from then on. One that is not shown stays as it is.
+    /// Shows the last count, and ends the line. No counts are shown afterward. If no counts are shown, this has no effect.
     pub fn end(&mut self)
         ensures hidden { self.new.shown ≡ Shown.NoCount }
         ensures same { self.old.shown ≡ Shown.NoCount → self.new ≡ self.old }
@@ -68,7 +68,7 @@ impl<'a, H: Clock, E: io::Write> ProgressLine<'a, H, E> {
         self.shown = Shown::NoCount;
     }
 
-    /// Returns how many milliseconds have passed. 0 where the clock can't be read.
+    /// Returns the milliseconds since the line was created, or 0 if the clock can't be read.
     fn passed(&self) -> u128 {
         match self.begin {
             Some(begin) => match begin.elapsed(self.clock) {
@@ -79,7 +79,7 @@ impl<'a, H: Clock, E: io::Write> ProgressLine<'a, H, E> {
         }
     }
 
-    /// Takes a count, and shows it where the last one that was shown is old enough.
+    /// Records a count. Shows it if enough time has passed since the last count that was shown.
     fn show_each(&mut self, frames: u64)
         ensures shown { self.new.shown ≡ self.old.shown }
         ensures frames { self.new.frames ≡ frames }
@@ -93,7 +93,7 @@ impl<'a, H: Clock, E: io::Write> ProgressLine<'a, H, E> {
         self.write_line(passed);
     }
 
-    /// Shows the count in the place of the last one, of which nothing is left. Where it can't be written, the work goes on.
+    /// Shows the count in place of the last one, which is overwritten completely. If writing fails, the error is ignored.
     fn write_line(&mut self, passed: u128)
         ensures shown { self.new.shown ≡ self.old.shown }
         ensures frames { self.new.frames ≡ self.old.frames }
@@ -109,7 +109,7 @@ impl<'a, H: Clock, E: io::Write> ProgressLine<'a, H, E> {
         self.length = length;
     }
 
-    /// Returns how many of a hundred parts are done, where it is known how many frames there are.
+    /// Returns the percentage of frames that are done, or `None` if the number of expected frames is unknown or 0.
     fn percent(&self) -> Option<u128> {
         match self.expected {
             Some(expected) if expected > 0 => {
@@ -132,14 +132,14 @@ impl<H: Clock, E: io::Write> Progress for ProgressLine<'_, H, E> {
     }
 }
 
-/// Writes so many blanks. Where they can't be written, the work goes on.
+/// Writes `count` spaces. If writing fails, the error is ignored.
 fn write_blanks<E: io::Write>(out: &mut E, count: usize) {
     for _ in 0..count {
         let _ = out.write_all(b" ");
     }
 }
 
-/// A line on a terminal, whose characters are counted. All of them are ASCII.
+/// A line on a terminal that counts its characters. All of them are ASCII.
 #[derive(Drop)]
 struct ShownText<'a, E> {
     out: &'a mut E,
@@ -156,7 +156,7 @@ impl<E: io::Write> fmt::Write for ShownText<'_, E> {
     }
 }
 
-/// Writes a count in the place of what stands in the line.
+/// Writes a count over the current contents of the line.
 fn write_count<W: fmt::Write>(
     line: &mut W,
     frames: u64,

@@ -1,4 +1,4 @@
-//! Texts on standard output.
+//! Writes texts to standard output.
 ghost use Rattle.std.specs.Prelude.{◌≡◌, None, string_bytes, IfErr, IsOkAnd, OnErr, OnOk};
 ghost use Rattle.std.specs.Io.KnownBytes.{Appends};
 ghost use Rattle.v_frame_bytes.specs.Sending.{AppendsBeginning};
@@ -14,7 +14,7 @@ use v_frame_y4m::Y4mError;
 ///
 /// # Errors
 ///
-/// The writer's.
+/// The error of the writer.
 pub fn write_text<W: io::Write>(out: &mut W, text: &str) -> Result<(), StreamError>
     ensures ok { OnOk result (Appends (W.contents out.old) (W.contents out.new)
         text.now) }
@@ -44,11 +44,11 @@ fn not_written(fault: &SendError) -> StreamError
     }
 }
 
-/// Writes a text that was made, where there was memory for it.
+/// Writes a text, unless its creation ran out of memory.
 ///
 /// # Errors
 ///
-/// The writer's, and [`Problem::OutOfMemory`] where there was no memory.
+/// The error of the writer, and [`Problem::OutOfMemory`] if `text` is an error.
 pub fn write_made<W: io::Write>(
     out: &mut W,
     text: Result<String, AllocError>,
@@ -67,7 +67,7 @@ pub fn write_made<W: io::Write>(
     }
 }
 
-/// Returns the error where there is no memory for what is reported.
+/// Returns the error for a report that does not fit into memory.
 pub fn no_memory() -> StreamError
     ensures { result ≡ record {
       place = Place.Output;

@@ -1,23 +1,23 @@
-//! Which counts of frames are shown.
+//! Selects the frame counts that `--progress` shows.
 ghost use Rattle.std.specs.Prelude.{◌≡◌};
 ghost use Rattle.yuv_system.specs.ProgressLines.{asks_progress, beside_output, beside_report, shown_counts};
 
 use yuv_reports::ReportForm;
 use yuv_words::{Command, CommandName, Options};
 
-/// Which counts of frames `--progress` shows.
+/// The frame counts that `--progress` shows.
 #[derive(Clone, Copy)]
 pub enum Shown {
-    /// None.
+    /// No counts.
     NoCount,
-    /// The last one, in a line of its own.
+    /// Only the last count, on a separate line.
     LastCount,
-    /// One every tenth of a second, each in the place of the one before it, and the last one.
+    /// A count every tenth of a second, each in place of the one before, and the last count.
     EachCount,
 }
 
-/// Returns which counts a command shows on standard error: those that are asked for, where it is a terminal. Where standard output is
-/// one too, none stands in a line that the command writes there.
+/// Returns the counts that a command shows on standard error: none unless `--progress` is given and standard error is a terminal.
+/// If standard output is a terminal too, no count is shown on a line that the command writes.
 pub fn counts_shown(command: &Command<'_>, is_terminal: bool, output_is_terminal: bool) -> Shown
     ensures { result ≡ shown_counts command.now is_terminal output_is_terminal }
 {
@@ -30,7 +30,7 @@ pub fn counts_shown(command: &Command<'_>, is_terminal: bool, output_is_terminal
     Shown::EachCount
 }
 
-/// Returns whether a command asks that the count of frames is shown meanwhile.
+/// Returns whether a command has the option `--progress`.
 fn asks_for_progress(command: &Command<'_>) -> bool
     ensures { result ≡ asks_progress command.now }
 {
@@ -40,7 +40,7 @@ fn asks_for_progress(command: &Command<'_>) -> bool
     }
 }
 
-/// Returns which counts are shown on the terminal where a command writes what it finds.
+/// Returns the counts that are shown if the results of a command are written to the same terminal.
 fn shown_beside_output(command: &Command<'_>) -> Shown
     ensures { result ≡ beside_output command.now }
 {
@@ -54,8 +54,8 @@ fn shown_beside_output(command: &Command<'_>) -> Shown
     }
 }
 
-/// Returns which counts are shown on the terminal that gets a report. One of each frame gets whole lines, but those of an object
-/// end with the next frame.
+/// Returns the counts that are shown if a report is written to the same terminal. A report with a line for each frame has
+/// complete lines between two frames, but the last line of a frame in JSON ends only when the next frame is written.
 fn shown_beside_report(options: &Options) -> Shown
     ensures { result ≡ beside_report options.now.form options.now.frames }
 {

@@ -1,8 +1,8 @@
-//! What a command has of its system.
+//! The parts of the system that a command uses.
 
 use crate::progress::ProgressLine;
 
-/// What a command has of its system.
+/// The parts of the system that a command uses.
 #[derive(Drop)]
 pub struct System<'a, H, I, O, E> {
     /// Files, memory and the clock.
@@ -11,6 +11,6 @@ pub struct System<'a, H, I, O, E> {
     pub input: Option<I>,
     /// Standard output.
     pub output: O,
-    /// Where the count of frames is shown, on standard error.
+    /// The line on standard error that shows the frame count.
     pub progress: ProgressLine<'a, H, E>,
 }

@@ -1,4 +1,4 @@
--- From what was read of the words to the call.
+-- From the arguments that were read to the command that they request.
 use Rattle.std.proofs.Common.{ℕ, ◌≡◌, ◌≢◌, ◌≤◌, List, [], ◌∷◌, ◌++◌, length, refl, sym, ◌∙◌, ap, subst, cond, get_or, inl, inr}
 use Rattle.std.proofs.Common.{arith, eqb, lit≤, rules}
 use Rattle.std.proofs.lemmas.Bool.{eqb-true}
@@ -86,8 +86,8 @@ module _ (k : CommandName) (words : List (List ℕ)) (reading : Reading) (read :
           (subst (λ (given : OptionName → List (List ℕ)). HasValueFault given e) given_is fault)),
     )
 
--- 1 for a word that asks for help, 2 for one that asks for the version, 3 for the list of formats, and
--- else 0; for proofs only
+-- Classifies an argument, for proofs only: 1 if it requests help, 2 if it requests the version, 3
+-- if it names the list of formats, and 0 otherwise.
 abbrev rank : List ℕ → ℕ
 rank text = cond (bytes_eq text (codes "help")) 1 (cond (bytes_eq text (codes "--help")) 1
     (cond (bytes_eq text (codes "-h")) 1 (cond (bytes_eq text (codes "version")) 2
@@ -122,7 +122,7 @@ first_of x y xs ys is = ap (λ (zs : List (List ℕ)). get_or zs 0 x) is
 rest_of : (x y : List ℕ) (xs ys : List (List ℕ)) → x ∷ xs ≡ y ∷ ys → xs ≡ ys
 rest_of x y xs ys is = search rules
 
--- words that begin with the name of a command are written as a command only where they are its call
+-- Arguments that begin with the name of a command request only that command.
 module _ (k : CommandName) (words rest : List (List ℕ)) (is : words ≡ command_text k ∷ rest) where
   named_call : (c : Command) (j : CommandName) (more : List (List ℕ)) → words ≡ command_text j ∷ more → IsCall j c more
       → IsCall k c rest
@@ -139,7 +139,7 @@ module _ (k : CommandName) (words rest : List (List ℕ)) (is : words ≡ comman
   only_calls none (command.Call _) written =
       none _ (named_call _ written.name written.rest written.named written.call)
 
--- a word for help begins no other call than that for help
+-- If the first argument requests help, the arguments request nothing else.
 pub only_help : (word : List ℕ) (rest : List (List ℕ)) → ((k : CommandName) → word ≢ command_text k) → IsHelpWord word
     → ((topic : Topic) → ¬ (IsTopic topic rest)) → (c : Command) → ¬ (IsWrittenAs (word ∷ rest) c)
 only_help word rest no_name help none (command.Help topic) written =
@@ -149,7 +149,7 @@ only_help word rest no_name help none command.Version written =
 only_help word rest no_name help none (command.Call _) written =
     no_name written.name (first_of word _ rest written.rest written.named)
 
--- a word that names no topic
+-- The argument names no help topic.
 pub no_topic : (word : List ℕ) → ((k : CommandName) → word ≢ command_text k) → word ≢ formats_word → ¬ (IsHelpWord word)
     → ¬ (IsVersionWord word) → (topic : Topic) → ¬ (NamesTopic topic word)
 no_topic word no_name no_list no_help no_version about.Program (inl help) = no_help help
@@ -157,7 +157,7 @@ no_topic word no_name no_list no_help no_version about.Program (inr version) = n
 no_topic word no_name no_list no_help no_version (about.Command k) is = no_name k is
 no_topic word no_name no_list no_help no_version about.Formats is = no_list is
 
--- one word that names no topic is no topic, and neither are two words
+-- A single argument that names no topic is no topic, and neither are two arguments.
 pub one_word : (words : List (List ℕ)) (word : List ℕ) → words ≡ word ∷ [] → ((topic : Topic) → ¬ (NamesTopic topic word))
     → (topic : Topic) → ¬ (IsTopic topic words)
 one_word words word is none topic (inl nothing) = search (rules, sym is ∙ nothing.0)

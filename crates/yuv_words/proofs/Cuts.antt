@@ -1,4 +1,4 @@
--- A text is cut at a mark in one way, where what stands before the mark has none.
+-- If the text before a mark does not contain the mark, the text can be split there in only one way.
 use Rattle.std.proofs.Common.{ℕ, ◌≡◌, ◌≢◌, ◌<◌, ◌^◌, List, [], ◌∷◌, ◌++◌, length, get_or, decimal, refl, sym, ◌∙◌, ap}
 use Rattle.std.proofs.Common.{subst, arith, rules, suc, zero, Bool, true, false, cond, eqb}
 use Rattle.std.specs.Prelude.{None, Some, Result, Ok, Err, MatchResult}
@@ -16,11 +16,11 @@ use Rattle.v_frame_formats.specs.declared.rectangle.Rectangle.{Rectangle}
 eqb-false : (m n : ℕ) → eqb m n ≡ false → m ≡ n → ⊥
 eqb-false m n differs is = grind (arith, differs, is)
 
--- a list without a mark
+-- The list does not contain the mark.
 abbrev pub Lacks : ℕ → List ℕ → Type 0
 Lacks mark xs = (i : ℕ) → i < length xs → get_or xs i 0 ≢ mark
 
--- the same as a test
+-- A test of a list for having no mark.
 abbrev pub plain : ℕ → List ℕ → Bool
 plain mark [] = true
 plain mark (b ∷ bs) = cond (eqb b mark) false (plain mark bs)
@@ -81,7 +81,7 @@ module _ (mark : ℕ) (apart : ¬ (IsInRange 48 57 mark)) where
   no_cut bs ascii splits n rest small is =
       split_after mark bs (decimal n) rest None splits ascii is (number_lacks n small)
 
-  -- where the digits in front of the first mark are no number, none stands there
+  -- If the digits before the first mark are not a number, no number precedes the mark.
   pub no_number : (bs : List ℕ) (digits rest : Bor (List ℕ)) → mark < 128
       → IsSplitOnceResult mark bs (Some (digits, rest)) → ((n : ℕ) → ¬ (IsNumber n digits.now))
       → (n : ℕ) (tail : List ℕ) → n < 2 ^ 64 → bs ≢ decimal n ++ mark ∷ tail
@@ -112,7 +112,7 @@ same_sides r s x y width height =
     ∙ ap (λ (n : ℕ). let one : Rectangle = record { x = s.x; y = s.y; width = n; height = r.height } in one) width
     ∙ ap (λ (n : ℕ). let one : Rectangle = record { x = s.x; y = s.y; width = s.width; height = n } in one) height
 
--- a text spells one rectangle at most
+-- A text spells at most one rectangle.
 pub one_rectangle : (r s : Rectangle) (text : List ℕ) → SpellsRectangle r text → SpellsRectangle s text → r ≡ s
 one_rectangle r s text one other =
     let x = one_cut 44 comma_apart r.x s.x _ _ one.1.x other.1.x (sym one.0 ∙ other.0) in
@@ -121,7 +121,7 @@ one_rectangle r s text one other =
     let height = decimal_injective r.height s.height one.1.height other.1.height width.1 in
     same_sides r s x.0 y.0 width.0 height
 
--- and one size of raw video
+-- A text spells at most one size of headerless video.
 pub one_size : (raw other : RawVideo) (text : List ℕ) → SpellsRaw raw text → SpellsRaw other text
     → (raw.width ≡ other.width) × (raw.height ≡ other.height)
 one_size raw other text one two =
@@ -129,7 +129,7 @@ one_size raw other text one two =
     let height = one_cut 58 colon_apart raw.height other.height _ _ one.height two.height width.1 in
     (width.0, height.0)
 
--- a text that is cut at a number is so in one way
+-- A text can be split after its first number in only one way.
 pub rest_is : (mark : ℕ) → ¬ (IsInRange 48 57 mark) → (text rest : List ℕ) (n m : ℕ) (tail : List ℕ)
     → (text ≡ decimal n ++ mark ∷ rest) × (n < 2 ^ 64) → m < 2 ^ 64 → text ≡ decimal m ++ mark ∷ tail → rest ≡ tail
 rest_is mark apart text rest n m tail cut small is =

@@ -1,4 +1,4 @@
--- The first word of a token tells the token, so words are read into tokens in one way.
+-- The first argument of a token determines the token, so arguments are tokens in only one way.
 use Rattle.std.proofs.Common.{ℕ, ◌≡◌, ◌≢◌, ◌<◌, true, false, List, [], ◌∷◌, ◌++◌, length, get_or, drop}
 use Rattle.std.proofs.Common.{refl, sym, ◌∙◌, ap, subst, append_assoc, rules, inl, inr}
 use Rattle.std.specs.Cmp.Lexicographic.{bytes_decides}
@@ -40,7 +40,7 @@ option_no_file n word (inl is) file = dashed_no_file word _ (is ∙ text_dashed 
 option_no_file n word (inr joined) file =
     dashed_no_file word _ (joined.1 ∙ ap (λ (t : List ℕ). t ++ 61 ∷ joined.0) (text_dashed n)) file
 
--- a word names one option at most
+-- An argument names at most one option.
 pub names_once : (n m : OptionName) (word : List ℕ) → Names word n → Names word m → n ≡ m
 names_once n m word (inl one) (inl other) = one_option n m (sym one ∙ other)
 names_once n m word (inl one) (inr other) = absurd (alone_or_joined n m other.0 (sym one ∙ other.1))
@@ -53,7 +53,7 @@ head_of x y xs ys is = ap (λ zs. get_or zs 0 x) is
 clash : (n m : OptionName) → n ≡ m → takes_value n ≡ false → takes_value m ≡ true → ⊥
 clash n m is lacks takes = search (rules, sym lacks ∙ ap takes_value is ∙ takes)
 
--- two tokens that begin the same words are one
+-- Two tokens that begin the same arguments are equal.
 pub one_head : (t u : Token) (xs ys : List (List ℕ)) → IsToken t → IsToken u
     → token_words t ++ xs ≡ token_words u ++ ys → (t ≡ u) × (xs ≡ ys)
 one_head (File a) (File b) xs ys one other is = (ap File (head_of a b xs ys is), tails a b xs ys is)
@@ -91,7 +91,7 @@ no_first (Flag n) xs is = nothing _ xs is
 no_first (Apart n v) xs is = nothing _ (v ∷ xs) is
 no_first (Joined n v) xs is = nothing _ xs is
 
--- the tokens behind those that the words begin with
+-- The tokens that follow the tokens with which the arguments begin.
 pub record Behind (tokens begun : List Token) (rest : List (List ℕ)) : Type 0 where
   pub more : List Token
   pub joined : tokens ≡ begun ++ more

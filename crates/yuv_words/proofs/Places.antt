@@ -1,4 +1,4 @@
--- Where each option and command stands in its table, so that no two are written alike.
+-- The index of each option and command in its table. No two have the same text.
 use Rattle.std.proofs.Common.{ℕ, ◌≡◌, ◌≢◌, ◌+◌, ◌<◌, ◌≤◌, Bool, true, ◌&&◌, List, [], ◌∷◌, length, get_or, refl, sym, ◌∙◌, ap}
 use Rattle.std.proofs.Common.{arith, eqb, subst, suc, zero}
 use Rattle.std.specs.Str.{bytes_eq}
@@ -17,7 +17,8 @@ use Rattle.yuv_words.specs.declared.command.CommandName.{CommandName}
 use Rattle.yuv_words.specs.declared.option_name.OptionName.{OptionName}
 use Rattle.yuv_words.specs.declared.option_name.TheConstants.{COMMANDS, OPTIONS}
 
--- A table of the variants of an enum without fields, in their order: each stands at its tag.
+-- A table of the variants of an enum without fields, in declaration order: the index of each
+-- variant is its tag.
 module _ (D : Declared) where
   abbrev in_order : ℕ → List D.D → Bool
   in_order k [] = true
@@ -31,7 +32,7 @@ module _ (D : Declared) where
       let more : tag_of D (get_or all i w) ≡ suc k + i = tag_at (suc k) all i w (and_parts _ _ order).1 (grind (arith, within)) in
       omega (arith, more)
 
-  -- the place of a text in a table
+  -- The index of a text in a table.
   abbrev place_of : List D.D → (D.D → List ℕ) → List ℕ → ℕ
   place_of all text word = position_or_len (λ a. bytes_eq (text a) word) all
 
@@ -43,7 +44,7 @@ module _ (D : Declared) where
     stands : (a w : D.D) → get_or all (tag_of D a) w ≡ a
     stands a w = tag_one D bare _ a (tag_at 0 all (tag_of D a) w order (below a) ∙ omega arith)
 
-    -- what a test says of the table holds of each variant
+    -- If a test holds for the whole table, it holds for each variant.
     each : (p : D.D → Bool) → list_all p all ≡ true → (a : D.D) → p a ≡ true
     each p is a = subst (λ (b : D.D). p b ≡ true) (stands a a)
         (All-get_or (λ b. p b ≡ true) all (tag_of D a) a (below a) (AllPass-from_list_all p all is))

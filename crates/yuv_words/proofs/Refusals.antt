@@ -1,4 +1,4 @@
--- Where words have a fault, they are no call.
+-- Arguments with an error request no command.
 use Rattle.std.proofs.Common.{ℕ, ◌≡◌, ◌≢◌, ◌<◌, true, false, List, [], ◌∷◌, ◌++◌, length, refl, sym, ◌∙◌, ap}
 use Rattle.std.proofs.Common.{subst, arith, eqb, rules, inl, inr, take}
 use Rattle.std.proofs.lemmas.Bool.{eqb-true}
@@ -23,7 +23,7 @@ use Rattle.yuv_words.proofs.Heads.{alone_or_joined, go_on, head_of, joined_once,
 use Rattle.yuv_words.proofs.Cuts.{tails}
 use Rattle.yuv_words.proofs.Places.{each_command, one_option}
 
--- a command has as many files as it takes
+-- A command has exactly the number of files that it takes.
 pub as_many : (k : CommandName) (first second third : List ℕ) (files : List (List ℕ))
     → AreFiles k first second third files → length files ≡ file_count k
 as_many k first second third files are = ap length are.0
@@ -34,7 +34,7 @@ pub says_count : (given : OptionName → List (List ℕ)) (k : CommandName) (c :
 says_count given k (command.Call c) files says = as_many k _ _ _ files says.1
 says_count given k _ files says = absurd says
 
--- a token that is an option
+-- The token is an option `n`.
 abbrev pub IsOf : OptionName → Token → Type 0
 IsOf n (File a) = ⊥
 IsOf n (Flag m) = m ≡ n
@@ -44,7 +44,7 @@ IsOf n (Joined m v) = m ≡ n
 is_itself : (n : OptionName) → is_same n n ≡ true
 is_itself n = (bytes_decides (option_text n) (option_text n)).1 refl
 
--- it gives a value to that option
+-- The token gives a value to that option.
 pub gives_value : (n : OptionName) (t : Token) → IsOf n t → (v : List ℕ) × (value_in n t ≡ v ∷ [])
 gives_value n (File a) is = absurd is
 gives_value n (Flag m) is = (
@@ -63,7 +63,7 @@ gives_value n (Joined m v) is = (
       (ap (λ b. if b then v ∷ [] else []) (is_itself n)),
 )
 
--- tokens whose first word is this
+-- If the first argument of a token names an option, the token is that option.
 pub first_named : (n : OptionName) (t : Token) (word : List ℕ) (xs ys : List (List ℕ)) → IsToken t → Names word n
     → token_words t ++ xs ≡ word ∷ ys → IsOf n t
 first_named n (File a) word xs ys is names same =
@@ -106,7 +106,7 @@ missing_first (Flag m) n xs is takes same = clash m n (one_option m n (head_of _
 missing_first (Apart m v) n xs is takes same = none_left v xs (tails _ _ (v ∷ xs) [] same)
 missing_first (Joined m v) n xs is takes same = alone_or_joined n m v (sym (head_of _ _ xs [] same))
 
--- a file word is a file
+-- If the first argument of a token is a file name, the token is that file.
 pub first_file : (t : Token) (word : List ℕ) (xs ys : List (List ℕ)) → IsToken t → IsFileWord word
     → token_words t ++ xs ≡ word ∷ ys → file_in t ≡ word ∷ []
 first_file (File a) word xs ys is file same = ap (λ x. x ∷ []) (head_of a word xs ys same)
@@ -117,7 +117,7 @@ first_file (Apart m v) word xs ys is file same =
 first_file (Joined m v) word xs ys is file same =
     absurd (option_no_file m word (inr (v, sym (head_of _ word xs ys same))) file)
 
--- the token behind those that were read
+-- The token after the tokens that were read.
 record Next (tokens begun : List Token) (word : List ℕ) (rest : List (List ℕ)) : Type 0 where
   token : Token
   more : List Token
@@ -212,7 +212,7 @@ module _ (k : CommandName) (c : Command) (words : List (List ℕ)) (call : IsCal
       omega (arith, long, count, many)
   word_refused _ has = absurd has
 
-  -- the tokens of a call are those that were read
+  -- The tokens of the command are the tokens that were read.
   pub same_tokens : (tokens : List Token) → All IsToken tokens → before_end words ≡ spelled tokens → call.tokens ≡ tokens
   same_tokens tokens are front =
       let behind = go_on call.tokens tokens [] call.are are (sym call.front ∙ front ∙ sym (append-nil (spelled tokens))) in

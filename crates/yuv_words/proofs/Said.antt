@@ -1,4 +1,4 @@
--- What a text spells, and no other text does.
+-- The value that a text spells is its only value.
 use Rattle.std.proofs.Common.{ℕ, ◌≡◌, ◌<◌, ◌^◌, List, [], ◌∷◌, ◌++◌, length, get_or, sym, ◌∙◌, ap, subst, arith, rules, inl, inr}
 use Rattle.std.proofs.Common.{refl, map, Bool, true, false, decimal}
 use Rattle.std.specs.Char.{to_ascii_lowercase}
@@ -17,7 +17,7 @@ use Rattle.v_frame_formats.specs.declared.format.VideoFormat.{VideoFormat}
 use Rattle.yuv_words.proofs.Cuts.{cut_same, inside, lacks_from, marked, one_cut, one_rectangle, one_size, plain, Lacks}
 use Rattle.v_frame_formats.proofs.Places.{each_format}
 
--- a text that spells a size of 0 spells no other
+-- A text that spells a rectangle of size 0 spells no other rectangle.
 pub no_rectangle : (word : List ℕ) (value : Rectangle) → SpellsRectangle value word
     → (value.width ≡ 0) ⊎ (value.height ≡ 0) → (r : Rectangle) → ¬ (IsRectangle r word)
 no_rectangle word value spelled (inl zero_wide) r spells =
@@ -34,7 +34,7 @@ no_raw word value spelled (inl zero_wide) raw spells =
 no_raw word value spelled (inr zero_high) raw spells =
     let same = one_size raw value word spells.0 spelled in omega (arith, spells.2, same.1, zero_high)
 
--- a name that differs from another in case only has no at sign, if the other one has none
+-- If two names differ in case only, and one has no at sign, neither has the other.
 lacks_lower : (name other : List ℕ) → IsSameName name other → plain 64 (map to_ascii_lowercase other) ≡ true → Lacks 64 name
 lacks_lower name other same free = λ i within is.
     let lower : map to_ascii_lowercase name ≡ map to_ascii_lowercase other =
@@ -53,7 +53,7 @@ full_lacks name f false true three first second third is = lacks_lower name (cod
 full_lacks name f false false true first second third is = lacks_lower name (codes "yuvj444p") third refl
 full_lacks name f false false false first second third is = absurd (search (rules, first, second, third, is))
 
--- no name of a format has an at sign
+-- No name of a format contains an at sign.
 pub name_lacks : (f : VideoFormat) (full : Bool) (name : List ℕ) → NamesRaw f full name → Lacks 64 name
 name_lacks f false name (named, inl is) = lacks_lower name (short_name f) is
     (each_format (λ g. plain 64 (map to_ascii_lowercase (short_name g))) refl f named)
@@ -63,13 +63,13 @@ name_lacks f false name (named, inr (inr is)) = lacks_lower name (common_name f)
     (each_format (λ g. plain 64 (map to_ascii_lowercase (common_name g))) refl f named)
 name_lacks f true name is = full_lacks name f _ _ _ refl refl refl is
 
--- a name that is no format's, and not one of those of full range
+-- The name is neither the name of a format nor one of the names for full range.
 pub no_name : (name : List ℕ) → ((f : VideoFormat) → ¬ (IsFormat f name)) → full_range_format name ≡ None
     → (f : VideoFormat) (full : Bool) → ¬ (NamesRaw f full name)
 no_name name none nothing f false is = none f is
 no_name name none nothing f true is = search (rules, sym nothing ∙ is)
 
--- what stands in front of the at sign is the format, and what is behind it the rate
+-- The text before the at sign names the format, and the text after it spells the rate.
 pub record HasRate (f : VideoFormat) (full : Bool) (name rest : List ℕ) : Type 0 where
   pub format : NamesRaw f full name
   pub rate : Ratio
@@ -91,7 +91,7 @@ format_cut f full (Some q) text name rest lacks is spells =
       spelled = subst (IsRatio q) (sym cut.1) spells.rated.2;
     }
 
--- a text that spells a ratio with 0 spells no other with this mark
+-- A text that spells a ratio with a 0 spells no other ratio with this mark.
 pub no_ratio : (mark : ℕ) → ¬ (IsInRange 48 57 mark) → (text rest : List ℕ) (n d : ℕ)
     → (text ≡ decimal n ++ mark ∷ rest) × (n < 2 ^ 64) → IsNumber d rest
     → (n ≡ 0) ⊎ ((n ≡ 0 → ⊥) × (d ≡ 0)) → (r : Ratio) → ¬ (IsRatioWith mark r text)
@@ -103,18 +103,19 @@ no_ratio mark apart text rest n d first second (inr zero) r is =
     let same = decimal_injective d r.denominator second.1 is.1.1 (sym second.0 ∙ cut.1) in
     omega (arith, same, zero.1, is.3)
 
--- a text without a mark spells the number of its digits, and nothing if that is no number above 0
+-- A text without a mark spells the number of its digits, or nothing if this is not a number above
+-- 0.
 pub no_whole_ratio : (text : List ℕ) → ((r : Ratio) → ¬ (IsRatioWith 58 r text)) → ((r : Ratio) → ¬ (IsRatioWith 47 r text))
     → ((n : ℕ) → IsNumber n text → n ≡ 0) → (r : Ratio) → ¬ (IsRatio r text)
 no_whole_ratio text colon slash none r (inl is) = colon r is
 no_whole_ratio text colon slash none r (inr (inl is)) = slash r is
 no_whole_ratio text colon slash none r (inr (inr is)) = omega (arith, none r.numerator is.0, is.1)
 
--- a text spells one number
+-- A text spells at most one number.
 pub one_number : (n m : ℕ) (text : List ℕ) → IsNumber n text → IsNumber m text → n ≡ m
 one_number n m text one other = decimal_injective n m one.1 other.1 (sym one.0 ∙ other.0)
 
--- a text that spells 0 or a number above 65535 spells no gain
+-- A text that spells 0 or a number above 65535 spells no gain.
 pub no_gain : (text : List ℕ) (n : ℕ) → IsNumber n text → (n ≡ 0) ⊎ ((n ≡ 0 → ⊥) × (65535 < n)) → (m : ℕ)
     → ¬ (IsGain m text)
 no_gain text n number (inl zero) m is =
@@ -122,7 +123,7 @@ no_gain text n number (inl zero) m is =
 no_gain text n number (inr large) m is =
     omega (arith, one_number m n text (is.0, omega (arith, is.2)) number, large.1, is.2)
 
--- a text without an at sign that is no format's name spells no format
+-- A text without an at sign that is not the name of a format spells no format.
 pub no_format : (text : List ℕ) → Lacks 64 text → ((f : VideoFormat) (full : Bool) → ¬ (NamesRaw f full text))
     → (f : VideoFormat) (full : Bool) (rate : Option Ratio) → ¬ (SpellsFormat f full rate text)
 no_format text lacks none f full None spells =

@@ -1,4 +1,4 @@
--- The texts of words, cut where a loop stands.
+-- The texts of arguments, up to the index of a loop.
 use Rattle.std.proofs.Common.{ℕ, ◌≡◌, ◌+◌, ◌<◌, List, [], ◌∷◌, ◌++◌, length, get_or, take, drop, sym, ◌∙◌, ap}
 use Rattle.std.proofs.Common.{append_assoc, arith, false, refl, subst, true, ◌≤◌}
 use Rattle.std.proofs.lemmas.List.{drop-drop, drop-map, map-append, map_more, take-append-drop}
@@ -29,7 +29,7 @@ text_at xs i d within = get_or-map (λ (x : Bor (List ℕ)). x.now) xs i d [] wi
 texts_long : (xs : List (Bor (List ℕ))) → length (texts_of xs) ≡ length xs
 texts_long xs = length-map xs (λ (x : Bor (List ℕ)). x.now)
 
--- no word in front of a place is the end
+-- No argument before index `i` is `--`.
 abbrev pub NoEnd : List (Bor (List ℕ)) → ℕ → Type 0
 NoEnd xs i = (k : ℕ) → k < i → is_end (get_or (texts_of xs) k []) ≡ false
 

@@ -1,4 +1,4 @@
--- What one more word makes of the words that were read.
+-- The files and options after one more argument is read.
 use Rattle.std.proofs.Common.{ℕ, ◌≡◌, ◌≢◌, Bool, true, false, List, [], ◌∷◌, ◌++◌, refl, sym, ◌∙◌, ap, subst}
 use Rattle.std.proofs.Common.{append_assoc, arith, inl, inr, length, ◌⊎◌, ◌<◌, ◌≤◌, rules}
 use Rattle.std.specs.Prelude.{flat_map, if◌then◌else◌, Contains, IfSome, None, Some}
@@ -22,7 +22,7 @@ bool_cases : (b : Bool) → (b ≡ true) ⊎ (b ≡ false)
 bool_cases true = inl refl
 bool_cases false = inr refl
 
--- two options are one or are not
+-- Two options are the same or differ.
 same_cases : (n option : OptionName) → ((n ≡ option) × (is_same n option ≡ true)) ⊎ ((n ≢ option) × (is_same n option ≡ false))
 same_cases n option =
     let decides = bytes_decides (option_text n) (option_text option) in
@@ -31,7 +31,7 @@ same_cases n option =
       | inr differ ↦ inr ((λ is. absurd (search (rules, decides.1 (ap option_text is)))), differ)
     ]
 
--- a token that gives this value to the option
+-- The token gives this value to the option.
 abbrev pub Gives : Token → OptionName → List ℕ → Type 0
 Gives token option value = (n : OptionName) → value_in n token ≡ (if is_same n option then value ∷ [] else [])
 
@@ -52,7 +52,7 @@ module _ (tokens : List Token) (token : Token) (option : OptionName) (value : Li
       ∙ append-nil (values_of tokens n)
 
 module _ (name : CommandName) (words : List (List ℕ)) (word : List ℕ) (old new : Reading) where
-  -- a token of an option that stands there for the first time was read
+  -- A token of an option that occurs for the first time was read.
   pub option_read : (token : Token) (option : OptionName) (value : List ℕ) → Gives token option value
       → IsToken token → file_in token ≡ [] → Contains (options_of name) option
       → given_to new.given option ≡ value ∷ []
@@ -84,7 +84,7 @@ module _ (name : CommandName) (words : List (List ℕ)) (word : List ℕ) (old n
         may = subst (λ awaits. IfSome awaits (MayAwait name (read.tokens ++ token ∷ []))) (sym awaiting) tt;
       }
 
-  -- a file was read
+  -- A file name was read.
   pub file_read : IsFileWord word → file_names new.files ≡ file_names old.files ++ word ∷ []
       → length (file_names old.files) < file_count name
       → new.given ≡ old.given → old.awaiting ≡ None → new.awaiting ≡ None
@@ -107,7 +107,7 @@ module _ (name : CommandName) (words : List (List ℕ)) (word : List ℕ) (old n
         may = subst (λ awaits. IfSome awaits (MayAwait name (read.tokens ++ File word ∷ []))) (sym after) tt;
       }
 
-  -- an option was read whose value is the next word
+  -- An option was read whose value is the next argument.
   pub await_read : (option : OptionName) → word ≡ option_text option → takes_value option ≡ true
       → Contains (options_of name) option → given_to old.given option ≡ []
       → new.files ≡ old.files → new.given ≡ old.given → old.awaiting ≡ None → new.awaiting ≡ Some option
@@ -128,7 +128,7 @@ module _ (name : CommandName) (words : List (List ℕ)) (word : List ℕ) (old n
             (record { takes = takes; own = own; first = sym (read.given option) ∙ first });
       }
 
-  -- the value of the option before was read
+  -- The value of the previous option was read.
   pub value_read : (option : OptionName) → old.awaiting ≡ Some option → new.awaiting ≡ None
       → new.files ≡ old.files → given_to new.given option ≡ word ∷ []
       → ((n : OptionName) → n ≢ option → given_to new.given n ≡ given_to old.given n)
@@ -139,7 +139,7 @@ module _ (name : CommandName) (words : List (List ℕ)) (word : List ℕ) (old n
       (ap (λ xs. xs ++ word ∷ []) (read.front ∙ ap (λ xs. spelled read.tokens ++ awaited xs) before)
       ∙ append_assoc (spelled read.tokens) (option_text option ∷ []) (word ∷ []))
 
-  -- an option was read that takes no value, or has it in its own word
+  -- An option was read that takes no value, or has its value in the same argument.
   pub whole_read : (token : Token) (option : OptionName) (value : List ℕ) → Gives token option value
       → IsToken token → file_in token ≡ [] → token_words token ≡ word ∷ [] → Contains (options_of name) option
       → given_to old.given option ≡ [] → given_to new.given option ≡ value ∷ []

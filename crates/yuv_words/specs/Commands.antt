@@ -1,4 +1,4 @@
--- What each command says: its files, and each option by what is given to it.
+-- The meaning of the files and options that a command is given.
 use Rattle.std.specs.Prelude.{ℕ, ◌≡◌, ◌-◌, Bool, true, false, List, [], ◌∷◌, drop, length, replicate, take, Option, Some, None}
 use Rattle.v_frame_formats.specs.Formats.{IsFormat}
 use Rattle.yuv_words.specs.Names.{file_count}
@@ -12,12 +12,13 @@ use Rattle.yuv_reports.specs.declared.comparison.ReportForm.TheVariants.{Lines, 
 use Rattle.yuv_words.specs.declared.option_name.OptionName.{OptionName}
 use Rattle.yuv_words.specs.declared.option_name.OptionName.TheVariants as option
 
--- how often an option stands that may stand once
+-- The number of times that an option without a value is given, if it may be given once.
 abbrev pub times : Bool → ℕ
 times true = 1
 times false = 0
 
--- what is given once says the value; where there is none, nothing is given
+-- The texts that are given to an option: one text that spells the value, or no text if there is no
+-- value.
 abbrev pub SaysValue : {A : Type 0} → (A → List ℕ → Type 0) → Option A → List (List ℕ) → Type 0
 SaysValue Spells None texts = texts ≡ []
 SaysValue Spells (Some a) texts = (text : List ℕ) × (texts ≡ text ∷ []) × Spells a text
@@ -32,14 +33,15 @@ is_json Lines = false
 is_json Csv = false
 is_json Json = true
 
--- the first of three names are the files of a command, as many as it takes, and those behind them
--- are empty
+-- The command takes the list `files`. Its files are the first of the three names, and the other
+-- names are empty.
 abbrev pub AreFiles : CommandName → List ℕ → List ℕ → List ℕ → List (List ℕ) → Type 0
 AreFiles name first second third files =
     (files ≡ take (file_count name) (first ∷ second ∷ third ∷ []))
     × (drop (file_count name) (first ∷ second ∷ third ∷ []) ≡ replicate (3 - file_count name) [])
 
--- what is given to each option, each time that it stands there
+-- The options `o` have the values of the texts that `given` lists for each option: one text each
+-- time that the option occurs.
 module _ (given : OptionName → List (List ℕ)) where
   pub record SaysOptions (o : Options) : Type 0 where
     pub csv : length (given option.Csv) ≡ times (is_csv o.form)
@@ -71,7 +73,7 @@ module _ (given : OptionName → List (List ℕ)) where
     pub raw_second : SaysValue IsRaw o.raw_second (given option.RawSecond)
     pub max_pixels : SaysValue IsNumber o.max_pixels (given option.MaxPixels)
 
-  -- the files and the options say the command of this name
+  -- The files and the options are those of this command.
   abbrev pub Says : CommandName → Command → List (List ℕ) → Type 0
   Says name (Call call) files =
       (call.name ≡ name) × AreFiles name call.first.now call.second.now call.third.now files

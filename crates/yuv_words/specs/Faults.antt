@@ -1,4 +1,4 @@
--- What is wrong with words that ask for nothing.
+-- The errors in arguments that request no command.
 use Rattle.std.specs.Prelude.{ℕ, ◌≡◌, ◌≢◌, ◌<◌, ◌⊎◌, ◌++◌, ⊤, All, Contains, List, [], ◌∷◌, false, true, length}
 use Rattle.yuv_words.specs.Calls.{IsHelpWord, IsVersionWord, NamesTopic}
 use Rattle.v_frame_formats.specs.Formats.{IsFormat}
@@ -14,11 +14,11 @@ use Rattle.yuv_words.specs.declared.error.UsageError.TheVariants as fault
 use Rattle.yuv_words.specs.declared.option_name.OptionName.{OptionName}
 use Rattle.yuv_words.specs.declared.option_name.OptionName.TheVariants as option
 
--- the text spells no value
+-- The text spells no value.
 abbrev pub SpellsNone : {A : Type 0} → (A → List ℕ → Type 0) → List ℕ → Type 0
 SpellsNone {A} Spells text = (a : A) → ¬ (Spells a text)
 
--- the text spells no value of the option
+-- The text spells no value of the option.
 abbrev pub IsNoValue : OptionName → List ℕ → Type 0
 IsNoValue option.Raw text = SpellsNone IsRaw text
 IsNoValue option.MaxPixels text = SpellsNone IsNumber text
@@ -37,7 +37,7 @@ IsNoValue option.Plane text = SpellsNone IsPlane text
 IsNoValue option.Gain text = SpellsNone IsGain text
 IsNoValue _ text = ⊥
 
--- what is given to an option says no value, or both forms of a report are asked for
+-- A text that is given to an option spells no value of it, or both forms of a report are requested.
 abbrev pub HasValueFault : (OptionName → List (List ℕ)) → UsageError → Type 0
 HasValueFault given (fault.NotAValue option text) =
     (given option ≡ text.now ∷ []) × IsNoValue option text.now
@@ -45,27 +45,27 @@ HasValueFault given fault.TwoForms =
     (length (given option.Csv) ≡ 1) × (length (given option.Json) ≡ 1)
 HasValueFault given _ = ⊥
 
--- there are fewer files
+-- There are fewer files than `count`.
 abbrev pub HasFileFault : ℕ → List (List ℕ) → UsageError → Type 0
 HasFileFault count files fault.MissingFile = length files < count
 HasFileFault count files _ = ⊥
 
--- the words begin with these tokens
+-- The arguments `words` are these tokens, followed by `rest`.
 pub record Begin (words : List (List ℕ)) (tokens : List Token) (rest : List (List ℕ)) : Type 0 where
   pub are : All IsToken tokens
   pub front : words ≡ spelled tokens ++ rest
 
--- the word is the option, alone or with a value
+-- The argument is the option, with or without a value after an equals sign.
 abbrev pub Names : List ℕ → OptionName → Type 0
 Names word option =
     (word ≡ option_text option) ⊎ ((value : List ℕ) × (word ≡ joined_text option value))
 
--- a word in front of `--` that is neither a file nor an option
+-- The argument is before `--`, and is neither a file name nor an option.
 pub record IsUnknown (word : List ℕ) : Type 0 where
   pub no_file : ¬ (IsFileWord word)
   pub no_option : (option : OptionName) → ¬ (Names word option)
 
--- tokens, and then a word that does not go on
+-- The arguments begin with tokens. The next argument is `word`, and cannot follow them.
 module _ (name : CommandName) (words : List (List ℕ)) where
   abbrev pub StopsAt : List ℕ → (List Token → Type 0) → Type 0
   StopsAt word After =
@@ -88,14 +88,14 @@ module _ (name : CommandName) (words : List (List ℕ)) where
       IsFileWord file.now × StopsAt file.now (λ tokens. length (files_of tokens) ≡ file_count name)
   HasWordFault _ = ⊥
 
--- a file behind `--` is the first too many
+-- A file after `--` is the first file too many.
 abbrev pub HasLateFile : ℕ → List (List ℕ) → List (List ℕ) → UsageError → Type 0
 HasLateFile count early late (fault.ExtraFile file) =
     (front back : List (List ℕ)) × (late ≡ front ++ file.now ∷ back)
     × (length (early ++ front) ≡ count)
 HasLateFile count early late _ = ⊥
 
--- what is wrong after the name of a command
+-- The error in the arguments that follow the name of a command.
 abbrev pub HasFault : CommandName → List (List ℕ) → UsageError → Type 0
 HasFault name words error =
     HasWordFault name (before_end words) error
@@ -104,13 +104,13 @@ HasFault name words error =
     ⊎ (HasFileFault (file_count name) (files_of tokens ++ after_end words) error
     ⊎ HasValueFault (values_of tokens) error)))
 
--- the word is no name of a command, and asks neither for help nor for the version
+-- The first argument is not the name of a command, and requests neither help nor the version.
 pub record IsNoCommand (word : List ℕ) : Type 0 where
   pub no_name : (name : CommandName) → word ≢ command_text name
   pub no_help : ¬ (IsHelpWord word)
   pub no_version : ¬ (IsVersionWord word)
 
--- what is wrong with the words behind one that asks for help
+-- The error in the arguments that follow `help`.
 abbrev pub HasTopicFault : List (List ℕ) → UsageError → Type 0
 HasTopicFault words (fault.UnknownCommand word) =
     (words ≡ word.now ∷ []) × ((topic : Topic) → ¬ (NamesTopic topic word.now))
@@ -126,7 +126,7 @@ abbrev pub HasExtraWord : List (List ℕ) → UsageError → Type 0
 HasExtraWord words (fault.ExtraWord word) = (rest : List (List ℕ)) × (words ≡ word.now ∷ rest)
 HasExtraWord words _ = ⊥
 
--- what is wrong with the words of a call
+-- The error in the arguments of the program.
 abbrev pub IsRefusedFor : List (List ℕ) → UsageError → Type 0
 IsRefusedFor words error =
     ((words ≡ []) × (error ≡ fault.NoCommand))

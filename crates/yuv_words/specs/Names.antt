@@ -1,4 +1,4 @@
--- How commands and options are written, and which command has which options.
+-- The texts of commands and options, and the options of each command.
 use Rattle.std.specs.Prelude.{ℕ, Bool, true, false, List, [], ◌∷◌, codes}
 use Rattle.yuv_words.specs.declared.command.CommandName.{CommandName}
 use Rattle.yuv_words.specs.declared.command.CommandName.TheVariants.{Info, Compare, Copy, Sum, Stats, Show, Diff, Plot}
@@ -51,7 +51,7 @@ option_text Range = codes "--range"
 option_text Plane = codes "--plane"
 option_text Gain = codes "--gain"
 
--- a value belongs to the option
+-- Whether the option takes a value.
 abbrev pub takes_value : OptionName → Bool
 takes_value Header = false
 takes_value Ssim = false
@@ -83,7 +83,7 @@ options_of Diff = Frame ∷ Gain ∷ Raw ∷ RawSecond ∷ Force ∷ MaxPixels �
 options_of Plot =
     Skip ∷ SkipSecond ∷ Count ∷ Raw ∷ RawSecond ∷ Force ∷ MaxPixels ∷ Progress ∷ []
 
--- how many files the command takes
+-- The number of files that the command takes.
 abbrev pub file_count : CommandName → ℕ
 file_count Info = 1
 file_count Compare = 2

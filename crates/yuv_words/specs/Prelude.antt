@@ -1,4 +1,4 @@
--- The words that callers' clauses cite, re-exported from one place.
+-- The definitions that contracts of other crates use, re-exported from one module.
 pub use Rattle.yuv_words.specs.Calls.{IsCall, IsWrittenAs}
 pub use Rattle.yuv_words.specs.Commands.{Says, SaysValue}
 pub use Rattle.yuv_words.specs.Faults.{HasFault, IsRefusedFor}

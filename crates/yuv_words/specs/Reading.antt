@@ -1,4 +1,4 @@
--- What words say while they are read.
+-- The meaning of the arguments that were read so far.
 use Rattle.std.specs.Prelude.{ℕ, ◌≡◌, ◌≤◌, ◌⊎◌, ◌++◌, All, Contains, IfSome, List, [], ◌∷◌, length, true, slice_index_or, Option, Some, None}
 use Rattle.std.specs.Borrow.{Bor}
 use denote.Enum.Declared.{tag_of}
@@ -18,11 +18,11 @@ use Rattle.yuv_words.specs.declared.reading.Reading.{Reading}
 use Rattle.yuv_words.specs.declared.word.Word.{Word}
 use Rattle.yuv_words.specs.declared.word.Word.TheVariants as word
 
--- the place of an option among all
+-- The index of an option among all options.
 abbrev pub option_place : OptionName → ℕ
 option_place option = tag_of the_type option
 
--- the text of a word that may be missing
+-- A list of the text of an argument, or an empty list if there is no argument.
 abbrev pub text_in : Option (Bor (List ℕ)) → List (List ℕ)
 text_in None = []
 text_in (Some word) = word.now ∷ []
@@ -36,7 +36,7 @@ file_names (One first) = first.now ∷ []
 file_names (Two first second) = first.now ∷ second.now ∷ []
 file_names (Three first second third) = first.now ∷ second.now ∷ third.now ∷ []
 
--- what is given and the files say the command
+-- The options that were given and the files request this command.
 abbrev pub IsSaid : Given → Files → CommandName → Command → Type 0
 IsSaid given files name command = Says (given_to given) name command (file_names files)
 
@@ -44,25 +44,26 @@ abbrev pub HasSaidFault : Given → Files → CommandName → UsageError → Typ
 HasSaidFault given files name error =
     HasFileFault (file_count name) (file_names files) error ⊎ HasValueFault (given_to given) error
 
--- the option whose value is the next word
+-- The text of the option whose value is the next argument, if there is one.
 abbrev pub awaited : Option OptionName → List (List ℕ)
 awaited None = []
 awaited (Some option) = option_text option ∷ []
 
--- what a word is
+-- The kind of an argument.
 abbrev pub IsWord : List ℕ → Word → Type 0
 IsWord text word.File = IsFileWord text
 IsWord text (word.Option option) = text ≡ option_text option
 IsWord text (word.Joined option value) = text ≡ joined_text option value.now
 IsWord text word.Unknown = IsUnknown text
 
--- an option of the command may have its value
+-- The option belongs to the command and takes a value, and no token before gives it one.
 pub record MayAwait (name : CommandName) (tokens : List Token) (option : OptionName) : Type 0 where
   pub takes : takes_value option ≡ true
   pub own : Contains (options_of name) option
   pub first : values_of tokens option ≡ []
 
--- the words so far are spelled by tokens, and this is what the tokens say
+-- The arguments `words` so far are spelled by tokens, and `reading` has the files and options of
+-- these tokens.
 pub record IsRead (name : CommandName) (words : List (List ℕ)) (reading : Reading) : Type 0 where
   pub tokens : List Token
   pub are : All IsToken tokens

@@ -1,4 +1,4 @@
--- The values of options, and how each is spelled.
+-- The values of options, and the texts that spell them.
 use Rattle.std.specs.Prelude.{ℕ, ◌≡◌, ◌<◌, ◌^◌, ◌++◌, ◌⊎◌, Bool, false, true, List, [], ◌∷◌, codes, decimal, refl, Option, Some, None}
 use Rattle.v_frame_rgb.specs.declared.standard.ColorRange.{ColorRange}
 use Rattle.v_frame_rgb.specs.declared.standard.ColorRange.TheVariants.{Limited, Full}
@@ -13,8 +13,8 @@ use Rattle.yuv_words.specs.declared.command.RawVideo.{RawVideo}
 use Rattle.v_frame_formats.specs.declared.rectangle.Rectangle.{Rectangle}
 use Rattle.v_frame_formats.specs.declared.format.VideoFormat.{VideoFormat}
 
--- the marks between numbers: a comma in a rectangle, an x in a size, a colon or a slash in a ratio; a
--- colon precedes a format, and an at sign a rate
+-- The characters that separate numbers: a comma in a rectangle, an x in a size, a colon or a slash
+-- in a ratio. A colon also precedes a format, and an at sign precedes a rate.
 abbrev pub comma : ℕ
 comma = 44
 
@@ -33,27 +33,27 @@ slash = 47
 marks_by_name : codes ",:@x/" ≡ comma ∷ colon ∷ at_sign ∷ letter_x ∷ slash ∷ []
 marks_by_name = refl
 
--- numbers are decimal, without a sign and without leading zeros
+-- A number below 2 ^ 64 in decimal digits, without a sign and without leading zeros.
 abbrev pub IsNumber : ℕ → List ℕ → Type 0
 IsNumber n text = (text ≡ decimal n) × (n < 2 ^ 64)
 
 abbrev pub IsGain : ℕ → List ℕ → Type 0
 IsGain n text = (text ≡ decimal n) × (0 < n) × (n < 2 ^ 16)
 
--- two numbers above 0 with a mark between them
+-- Two numbers above 0, separated by `mark`.
 abbrev pub IsRatioWith : ℕ → Ratio → List ℕ → Type 0
 IsRatioWith mark ratio text =
     (text ≡ decimal ratio.numerator ++ mark ∷ decimal ratio.denominator) × FitsRatio ratio
     × (0 < ratio.numerator) × (0 < ratio.denominator)
 
--- N:D, N/D or N, where N and D are above 0
+-- N:D, N/D or N, with N and D above 0.
 abbrev pub IsRatio : Ratio → List ℕ → Type 0
 IsRatio ratio text =
     IsRatioWith colon ratio text
     ⊎ (IsRatioWith slash ratio text
     ⊎ (IsNumber ratio.numerator text × (0 < ratio.numerator) × (ratio.denominator ≡ 1)))
 
--- X,Y,WIDTH,HEIGHT
+-- The text X,Y,WIDTH,HEIGHT.
 abbrev pub rectangle_text : Rectangle → List ℕ
 rectangle_text r =
     decimal r.x ++ comma ∷ (decimal r.y ++ comma ∷ (decimal r.width ++ comma ∷ decimal r.height))
@@ -64,31 +64,31 @@ pub record FitsRectangle (r : Rectangle) : Type 0 where
   pub width : r.width < 2 ^ 64
   pub height : r.height < 2 ^ 64
 
--- it may have no pixels
+-- The text spells the rectangle, which may have no pixels.
 abbrev pub SpellsRectangle : Rectangle → List ℕ → Type 0
 SpellsRectangle r text = (text ≡ rectangle_text r) × FitsRectangle r
 
 abbrev pub IsRectangle : Rectangle → List ℕ → Type 0
 IsRectangle r text = SpellsRectangle r text × (0 < r.width) × (0 < r.height)
 
--- a name of the format; those that state full range are other names
+-- The name is a name of the format. Formats with full range have different names.
 abbrev pub NamesRaw : VideoFormat → Bool → List ℕ → Type 0
 NamesRaw format false name = IsFormat format name
 NamesRaw format true name = full_range_format name ≡ Some format
 
--- a name, and after it an at sign and the rate, if there is one
+-- The text is a name, followed by an at sign and the rate if there is a rate.
 abbrev pub IsRated : List ℕ → Option Ratio → List ℕ → Type 0
 IsRated name None text = text ≡ name
 IsRated name (Some rate) text =
     (rest : List ℕ) × (text ≡ name ++ at_sign ∷ rest) × IsRatio rate rest
 
--- FORMAT or FORMAT@RATE
+-- The text is FORMAT or FORMAT@RATE.
 pub record SpellsFormat (format : VideoFormat) (full : Bool) (rate : Option Ratio) (text : List ℕ) : Type 0 where
   pub name : List ℕ
   pub named : NamesRaw format full name
   pub rated : IsRated name rate text
 
--- WIDTHxHEIGHT:, and the format; the size may be 0
+-- The text is WIDTHxHEIGHT:, followed by the format. The size may be 0.
 pub record SpellsRaw (raw : RawVideo) (text : List ℕ) : Type 0 where
   pub rest : List ℕ
   pub spelled : text ≡ decimal raw.width ++ letter_x ∷ (decimal raw.height ++ colon ∷ rest)

@@ -1,4 +1,4 @@
--- Calls worked out by hand. Each line computes: it is proved by `refl`.
+-- Examples that were calculated by hand. Each one is proved by computation (`refl`).
 use Rattle.std.specs.Prelude.{◌≡◌, List, [], ◌∷◌, codes, refl}
 use Rattle.yuv_words.specs.Commands.{AreFiles}
 use Rattle.yuv_words.specs.Words.{after_end, before_end, files_of, spelled, values_of, Apart, File, Flag, Joined, Token}
@@ -31,12 +31,12 @@ half_is = refl
 crop_is : values_of tokens option.Crop ≡ []
 crop_is = refl
 
--- a command of two files has none in the third place
+-- A command that takes two files has no third file.
 two_files_are : AreFiles command.Copy (codes "a.y4m") (codes "b.y4m") []
     (codes "a.y4m" ∷ codes "b.y4m" ∷ [])
 two_files_are = (refl, refl)
 
--- behind the first `--` even `--` is a file
+-- After the first `--`, a second `--` is a file name.
 front_is : before_end (codes "--half" ∷ codes "--" ∷ codes "-x" ∷ codes "--" ∷ [])
     ≡ codes "--half" ∷ []
 front_is = refl

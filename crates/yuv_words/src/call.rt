@@ -1,4 +1,4 @@
-//! Commands from the words of a call.
+//! Reads the arguments of the program as a command.
 ghost use Rattle.std.specs.Prelude.{◌≡◌, ◌≢◌, ◌≤◌, ◌↔◌, ◌∷◌, length, IfErr, IfOk, IsSome, IsTrue, MatchOption};
 ghost use Rattle.yuv_words.specs.Calls.{is_help_option as is_help, formats_word, AsksHelp, IsCall, IsHelpWord, IsTopic, IsVersionWord, IsWrittenAs, NamesTopic};
 ghost use Rattle.yuv_words.specs.Faults.{HasFault, HasTopicFault, IsRefusedFor};
@@ -15,11 +15,12 @@ use crate::files::Files;
 use crate::given::Given;
 use crate::reading::{cut_at_end, read_words};
 
-/// Reads the words of a call, without the name of the program.
+/// Reads the arguments of the program, without the name of the program itself.
 ///
 /// # Errors
 ///
-/// Returns the first [`UsageError`] in this order: the command, the words from left to right, the files, the values of options.
+/// Returns the first [`UsageError`] in this order: the command, the arguments from left to right, the files, the values of
+/// options.
 pub fn read_command<'a>(words: &[&'a str]) -> Result<Command<'a>, UsageError<'a>>
     ensures said { IfOk result (IsWrittenAs (texts_of words.now)) }
     ensures refused { IfErr result (λ _. (command : TheCommand) → ¬ (IsWrittenAs (texts_of words.now) command)) }
@@ -34,7 +35,8 @@ pub fn read_command<'a>(words: &[&'a str]) -> Result<Command<'a>, UsageError<'a>
     }
 }
 
-/// Returns the first word if a later one, before any `--`, asks for help: `--help` or `-h`. The other words are then ignored.
+/// Returns the first argument if a later one, before any `--`, requests help: `--help` or `-h`. All other arguments are then
+/// ignored.
 pub fn help_topic<'a>(words: &[&'a str]) -> Option<&'a str>
     ensures asked { IsSome result ↔ AsksHelp (texts_of words.now) }
 {
@@ -50,14 +52,14 @@ pub fn help_topic<'a>(words: &[&'a str]) -> Option<&'a str>
     None
 }
 
-/// Returns whether a word after a command asks for help.
+/// Returns whether an argument after a command requests help: whether it is `--help` or `-h`.
 fn is_help_option(word: &str) -> bool
     ensures { result ≡ is_help word.now }
 {
     word == "--help" || word == "-h"
 }
 
-/// Reads the words of a call whose first word is not a command that takes files.
+/// Reads arguments of which the first is not a command that takes files: those of `help` and `version`.
 fn read_help<'a>(first: &'a str, rest: &[&'a str]) -> Result<Command<'a>, UsageError<'a>>
     requires { (name : TheName) → first.now ≢ command_text name }
     ensures said { IfOk result (IsWrittenAs (first.now ∷ texts_of rest.now)) }
@@ -78,21 +80,25 @@ fn read_help<'a>(first: &'a str, rest: &[&'a str]) -> Result<Command<'a>, UsageE
     }
 }
 
-/// Returns whether a word, as the first one, asks for help.
+/// Returns whether the first argument requests help: whether it is `help`, `--help` or `-h`.
 fn is_help(word: &str) -> bool
     ensures { IsTrue result ↔ IsHelpWord word.now }
 {
     word == "help" || word == "--help" || word == "-h"
 }
 
-/// Returns whether a word, as the first one, asks for the version.
+/// Returns whether the first argument requests the version: whether it is `version`, `--version` or `-V`.
 fn is_version(word: &str) -> bool
     ensures { IsTrue result ↔ IsVersionWord word.now }
 {
     word == "version" || word == "--version" || word == "-V"
 }
 
-/// Returns the topic of help that the words after `help` name.
+/// Returns the help topic that the arguments after `help` name: the program if there are none.
+///
+/// # Errors
+///
+/// [`UsageError::UnknownCommand`] if the argument names no topic, and [`UsageError::ExtraWord`] if there is more than one.
 fn read_topic<'a>(words: &[&'a str]) -> Result<Topic, UsageError<'a>>
     ensures said { IfOk result (λ topic. IsTopic topic (texts_of words.now)) }
     ensures refused { IfErr result (λ _. (topic : TheTopic) → ¬ (IsTopic topic (texts_of words.now))) }
@@ -108,7 +114,7 @@ fn read_topic<'a>(words: &[&'a str]) -> Result<Topic, UsageError<'a>>
     }
 }
 
-/// Returns the topic of help that a word names.
+/// Returns the help topic that an argument names, or `None` if it names none.
 fn topic_named(word: &str) -> Option<Topic>
     ensures { MatchOption result ((topic : TheTopic) → ¬ (NamesTopic topic word.now))
         (λ topic. NamesTopic topic word.now) }
@@ -125,14 +131,14 @@ fn topic_named(word: &str) -> Option<Topic>
     None
 }
 
-/// Returns whether a word names the list of formats.
+/// Returns whether an argument names the list of formats.
 fn is_formats(word: &str) -> bool
     ensures { IsTrue result ↔ (word.now ≡ formats_word) }
 {
     word == "formats"
 }
 
-/// Reads the words after the name of a command.
+/// Reads the arguments that follow the command `name`.
 fn read_call<'a>(name: CommandName, words: &[&'a str]) -> Result<Command<'a>, UsageError<'a>>
     ensures said { IfOk result (λ command. IsCall name command (texts_of words.now)) }
     ensures refused { IfErr result (λ _. (command : TheCommand) → ¬ (IsCall name command (texts_of words.now))) }
@@ -144,7 +150,7 @@ fn read_call<'a>(name: CommandName, words: &[&'a str]) -> Result<Command<'a>, Us
     command_of(name, &files, &reading.given)
 }
 
-/// Returns the command with these files and options.
+/// Returns the command `name` with these files and options.
 fn command_of<'a>(
     name: CommandName,
     files: &Files<'a>,

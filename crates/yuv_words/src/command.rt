@@ -1,11 +1,11 @@
-//! Commands: what the program is asked to do.
+//! Commands that the program can run.
 
 use v_frame_formats::{Component, Rectangle, VideoFormat};
 use v_frame_rgb::{ColorRange, Standard};
 use v_frame_y4m::Ratio;
 use yuv_reports::ReportForm;
 
-/// What the words of a call ask for.
+/// The action that the arguments of the program request.
 #[derive(Clone, Copy)]
 pub enum Command<'a> {
     /// Run a command on files.

@@ -1,20 +1,20 @@
-//! Errors in the words of a call.
+//! Errors in the arguments of the program.
 
 use crate::command::CommandName;
 use crate::option_name::OptionName;
 use crate::raw_part::raw_part;
 use std::fmt;
 
-/// Why the words of a call are rejected.
+/// The reason why the arguments of the program are rejected.
 #[derive(Drop)]
 pub enum UsageError<'a> {
-    /// There are no words.
+    /// There are no arguments.
     NoCommand,
-    /// The first word is not a command, or the word after `help` is not a topic of help.
+    /// The first argument is not a command, or the argument after `help` is not a help topic.
     UnknownCommand(&'a str),
-    /// This word follows all words that `help` or `version` takes.
+    /// This argument follows all arguments that `help` or `version` takes.
     ExtraWord(&'a str),
-    /// The word begins with a dash, but is not an option.
+    /// The argument begins with a dash, but is not an option.
     UnknownOption(&'a str),
     /// The command does not have the option.
     NotOfCommand {
@@ -25,20 +25,20 @@ pub enum UsageError<'a> {
     },
     /// The option is given twice.
     Repeated(OptionName),
-    /// The option takes a value, and is the last word.
+    /// The option takes a value, but is the last argument.
     MissingValue(OptionName),
-    /// The option takes no value.
+    /// The option takes no value, but is given one.
     NeedlessValue {
         /// The option.
         option: OptionName,
         /// The value that was given.
         value: &'a str,
     },
-    /// The word is not a value of the option.
+    /// The text is not a value of the option.
     NotAValue {
         /// The option.
         option: OptionName,
-        /// The word.
+        /// The text.
         word: &'a str,
     },
     /// Both `--csv` and `--json` are given.
@@ -47,7 +47,7 @@ pub enum UsageError<'a> {
     MissingFile,
     /// There are more files than the command takes, and this is the first that is too many.
     ExtraFile(&'a str),
-    /// An argument is not valid UTF-8. [`read_command`](crate::read_command) takes words that are, and never returns this
+    /// An argument is not valid UTF-8. [`read_command`](crate::read_command) takes arguments that are, and never returns this
     /// error.
     NotUnicode,
 }
@@ -70,7 +70,7 @@ impl fmt::Display for UsageError<'_> {
 }
 
 impl UsageError<'_> {
-    /// Writes what is wrong with an option.
+    /// Writes the message for an error in an option.
     fn write_option<W: fmt::Write>(&self, f: &mut fmt::Formatter<W>) -> fmt::Result {
         match self {
             UsageError::NotOfCommand { option, command } => {
@@ -89,7 +89,7 @@ impl UsageError<'_> {
     }
 }
 
-/// Writes that a word is not a value of an option. For headerless video, the message names the part that is wrong.
+/// Writes that a text is not a value of an option. For headerless video, the message names the part that is wrong.
 fn write_value<W: fmt::Write>(
     f: &mut fmt::Formatter<W>,
     option: OptionName,

@@ -1,4 +1,4 @@
-//! The file names of a call.
+//! The file names among the arguments.
 ghost use Rattle.std.specs.Prelude.{List, ℕ, ◌≡◌, ◌<◌, ◌≤◌, ◌++◌, ◌∷◌, [], length, IfOk, IfErr, IfNone, IfSome};
 ghost use Rattle.yuv_words.specs.Commands.{AreFiles};
 ghost use Rattle.yuv_words.specs.Faults.{HasFileFault, HasLateFile};
@@ -31,7 +31,7 @@ impl<'a> Files<'a> {
         }
     }
 
-    /// Returns these files and one more, or `None` if the command takes no more files.
+    /// Returns these files and one more, `name`, or `None` if `command` takes no more files.
     pub(crate) fn with(&self, command: CommandName, name: &'a str) -> Option<Files<'a>>
         ensures some { IfSome result (λ files. file_names files ≡ file_names self.now ++ name.now ∷ []) }
         ensures room { IfSome result (λ _. length (file_names self.now) < file_count command) }
@@ -49,6 +49,10 @@ impl<'a> Files<'a> {
     }
 
     /// Returns these files, followed by more.
+    ///
+    /// # Errors
+    ///
+    /// [`UsageError::ExtraFile`] with the first file name that is more than `command` takes.
     pub(crate) fn with_all(
         &self,
         command: CommandName,
@@ -69,7 +73,11 @@ impl<'a> Files<'a> {
         Ok(files)
     }
 
-    /// Returns three names: the files of a command, followed by empty names.
+    /// Returns three names: the files of `command`, followed by empty names.
+    ///
+    /// # Errors
+    ///
+    /// [`UsageError::MissingFile`] if there are fewer files than `command` takes.
     pub(crate) fn of(
         &self,
         command: CommandName,

@@ -1,4 +1,4 @@
-//! The values that the words of a call give to options.
+//! The options that are given, and their values.
 ghost use Rattle.std.specs.Prelude.{◌≡◌, length};
 
 use crate::command::Options;
@@ -7,7 +7,7 @@ use crate::option_name::{OPTION_COUNT, OptionName};
 use crate::values::OptionValue;
 use yuv_reports::ReportForm;
 
-/// The text that each option is given: its value, or an empty text if it takes no value.
+/// The text that each option is given: its value, or an empty text if it takes no value. An option that is not given has no text.
 #[derive(Clone, Copy)]
 pub(crate) struct Given<'a> {
     texts: [Option<&'a str>; OPTION_COUNT],
@@ -23,7 +23,7 @@ impl<'a> Given<'a> {
     ghost use Rattle.yuv_reports.specs.declared.comparison.ReportForm.{ReportForm as TheForm};
     ghost use Rattle.yuv_words.specs.declared.option_name.OptionName.{OptionName as TheOption};
 
-    /// Returns the values before any word was read: no option is given.
+    /// Returns the state before any argument was read, in which no option is given.
     pub(crate) fn new() -> Self
         ensures { (n : TheOption) → given_to result n ≡ [] }
     {
@@ -39,7 +39,7 @@ impl<'a> Given<'a> {
         self.texts[option.place()]
     }
 
-    /// Records that an option is given with this text.
+    /// Records that `option` is given with this text.
     pub(crate) fn set(&mut self, option: OptionName, text: &'a str)
         ensures given { given_to self.new option ≡ text.now ∷ [] }
         ensures others { (n : TheOption) → n ≢ option → given_to self.new n ≡ given_to self.old n }
@@ -47,14 +47,18 @@ impl<'a> Given<'a> {
         self.texts[option.place()] = Some(text);
     }
 
-    /// Returns whether an option is given.
+    /// Returns whether `option` is given.
     pub(crate) fn has(&self, option: OptionName) -> bool
         ensures { length (given_to self.now option) ≡ times result }
     {
         self.text(option).is_some()
     }
 
-    /// Returns the value of an option, or `None` if it is not given.
+    /// Returns the value of `option`, or `None` if it is not given.
+    ///
+    /// # Errors
+    ///
+    /// [`UsageError::NotAValue`] if its text is not a value of the option.
     pub(crate) fn value<T: OptionValue>(
         &self,
         option: OptionName,
@@ -74,7 +78,12 @@ impl<'a> Given<'a> {
         }
     }
 
-    /// Returns the options of a call.
+    /// Returns the options of the command.
+    ///
+    /// # Errors
+    ///
+    /// [`UsageError::NotAValue`] if a text is not a value of its option, and [`UsageError::TwoForms`] if both `--csv` and
+    /// `--json` are given.
     pub(crate) fn options(&self) -> Result<Options, UsageError<'a>>
         ensures said { IfOk result (SaysOptions (given_to self.now)) }
         ensures refused { IfErr result (λ _. (o : TheOptions) → ¬ (SaysOptions (given_to self.now) o)) }
@@ -111,7 +120,11 @@ impl<'a> Given<'a> {
         })
     }
 
-    /// Returns the form of a report: `--csv`, `--json`, or lines if neither is given.
+    /// Returns the form of a report: the form of `--csv` or `--json`, or lines if neither is given.
+    ///
+    /// # Errors
+    ///
+    /// [`UsageError::TwoForms`] if both are given.
     fn report_form(&self) -> Result<ReportForm, UsageError<'a>>
         ensures csv { IfOk result (λ form. length (given_to self.now OptionName.Csv) ≡ times (is_csv form)) }
         ensures json { IfOk result (λ form. length (given_to self.now OptionName.Json) ≡ times (is_json form)) }

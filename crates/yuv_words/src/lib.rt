@@ -1,4 +1,5 @@
-//! The command line of the program `yuv`: its words are read into a [`Command`], or rejected with a [`UsageError`]; help.
+//! The command line of the program `yuv`: its arguments are read as a [`Command`], or rejected with a [`UsageError`]. The crate
+//! also has the texts of help.
 #![tactic(auto)]
 
 mod call;

@@ -73,7 +73,7 @@ const COMMANDS: [CommandName; 8] = [
 ];
 
 impl OptionName {
-    /// Returns the word of the option with its dashes, a description of its value if it takes one, and its help.
+    /// Returns the text of the option with its dashes, a description of its value if it takes one, and its help.
     fn row(self) -> (&'static str, Option<&'static str>, &'static str)
         ensures text { result.0.now ≡ option_text self }
         ensures value { is_some result.1 ≡ has_value self }
@@ -126,7 +126,7 @@ impl OptionName {
         }
     }
 
-    /// Returns the word of the option with its dashes.
+    /// Returns the text of the option with its dashes, as `--csv`.
     pub fn text(self) -> &'static str
         ensures { result.now ≡ option_text self }
     {
@@ -138,7 +138,7 @@ impl OptionName {
         self.row().1.unwrap_or("")
     }
 
-    /// Returns the help of the option: one or more lines, the first of which begins with its word.
+    /// Returns the help of the option: one or more lines, of which the first begins with the option.
     pub fn help(self) -> &'static str {
         self.row().2
     }
@@ -158,7 +158,7 @@ impl OptionName {
         self as usize
     }
 
-    /// Returns the option with this word, or `None` if there is none.
+    /// Returns the option with this text, or `None` if there is none.
     pub(crate) fn named(word: &str) -> Option<Self>
         ensures { MatchOption result ((n : TheOption) → word.now ≢ option_text n)
             (λ n. word.now ≡ option_text n) }
@@ -171,7 +171,7 @@ impl OptionName {
         None
     }
 
-    /// Returns whether this is the word of the option.
+    /// Returns whether `word` is the text of the option.
     fn is_written(self, word: &str) -> bool
         ensures { IsTrue result ↔ (word.now ≡ option_text self) }
     {
@@ -180,7 +180,7 @@ impl OptionName {
 }
 
 impl CommandName {
-    /// Returns the word of the command.
+    /// Returns the name of the command, as `compare`.
     pub fn text(self) -> &'static str
         ensures { result.now ≡ command_text self }
     {
@@ -196,7 +196,7 @@ impl CommandName {
         }
     }
 
-    /// Returns the command with this word, or `None` if there is none.
+    /// Returns the command with this name, or `None` if there is none.
     pub(crate) fn named(word: &str) -> Option<Self>
         ensures { MatchOption result ((k : TheCommand) → word.now ≢ command_text k)
             (λ k. word.now ≡ command_text k) }
@@ -209,7 +209,7 @@ impl CommandName {
         None
     }
 
-    /// Returns whether this is the word of the command.
+    /// Returns whether `word` is the name of the command.
     fn is_written(self, word: &str) -> bool
         ensures { IsTrue result ↔ (word.now ≡ command_text self) }
     {

@@ -1,24 +1,24 @@
-//! The part of the text of headerless video that is wrong, for messages.
+//! The part of a text that makes it no format of headerless video, for messages.
 
 use crate::values::{number, number_before, raw_format};
 use std::fmt;
 
-/// The part of a text that is not `WIDTHxHEIGHT:FORMAT` or `WIDTHxHEIGHT:FORMAT@RATE`.
+/// The first wrong part of a text that is not `WIDTHxHEIGHT:FORMAT` or `WIDTHxHEIGHT:FORMAT@RATE`.
 #[derive(Clone, Copy)]
 pub(crate) enum RawPart<'a> {
-    /// The text does not begin with two numbers that have an `x` between them.
+    /// The text does not begin with two numbers that are separated by an `x`.
     Size,
     /// The width or the height is 0.
     NoPixels,
     /// No colon and format follow the size.
     NoFormat,
-    /// No format has this name.
+    /// This is not the name of a format.
     Format(&'a str),
     /// This is not a frame rate above 0.
     Rate(&'a str),
 }
 
-/// Returns the first part that is wrong of a text that spells no headerless video.
+/// Returns the first wrong part of a text that does not describe headerless video.
 pub(crate) fn raw_part(text: &str) -> RawPart<'_> {
     let Some((width, rest)) = number_before(text, 'x') else {
         return RawPart::Size;

@@ -1,4 +1,4 @@
-//! Reads the words of a call into file names and the values of options.
+//! Reads arguments as file names and options.
 ghost use Rattle.std.specs.Prelude.{List, ℕ, ◌≡◌, ◌≤◌, ◌++◌, ◌∷◌, [], drop, length, Contains, IfOk, IfErr, None};
 ghost use Rattle.std.specs.List.{position_or_len};
 ghost use Rattle.yuv_words.specs.Faults.{HasWordFault, Names};
@@ -13,16 +13,16 @@ use crate::given::Given;
 use crate::option_name::OptionName;
 use crate::word::{Word, word_of};
 
-/// The result of the words read so far.
+/// The files and options that were read so far.
 #[derive(Clone, Copy)]
 pub(crate) struct Reading<'a> {
     pub(crate) files: Files<'a>,
     pub(crate) given: Given<'a>,
-    /// The option whose value is the next word, if there is one.
+    /// The option whose value is the next argument, if there is one.
     awaiting: Option<OptionName>,
 }
 
-/// Returns the words before the first `--` and those after it.
+/// Returns the arguments before the first `--`, and those after it.
 pub(crate) fn cut_at_end<'b, 'a>(words: &'b [&'a str]) -> (&'b [&'a str], &'b [&'a str])
     ensures before { texts_of result.0.now ≡ before_end (texts_of words.now) }
     ensures after { texts_of result.1.now ≡ after_end (texts_of words.now) }
@@ -31,7 +31,7 @@ pub(crate) fn cut_at_end<'b, 'a>(words: &'b [&'a str]) -> (&'b [&'a str], &'b [&
     (front, without_first(behind))
 }
 
-/// Returns the index of the first `--`, or the number of words if there is none.
+/// Returns the index of the first `--`, or the number of arguments if there is none.
 fn end_place(words: &[&str]) -> usize
     ensures place { result ≡ position_or_len is_end (texts_of words.now) }
     ensures bound { result ≤ length words.now }
@@ -44,14 +44,14 @@ fn end_place(words: &[&str]) -> usize
     words.len()
 }
 
-/// Returns whether a word is `--`.
+/// Returns whether an argument is `--`.
 fn is_end_word(word: &str) -> bool
     ensures { result ≡ is_end word.now }
 {
     word == "--"
 }
 
-/// Returns the words after the first one.
+/// Returns the arguments after the first one.
 fn without_first<'b, 'a>(words: &'b [&'a str]) -> &'b [&'a str]
     ensures { result.now ≡ drop 1 words.now }
 {
@@ -61,7 +61,12 @@ fn without_first<'b, 'a>(words: &'b [&'a str]) -> &'b [&'a str]
     }
 }
 
-/// Reads the words before `--`.
+/// Reads the arguments before `--`.
+///
+/// # Errors
+///
+/// The error of the first argument that is rejected, as in [`Reading::take`], and [`UsageError::MissingValue`] if the last
+/// argument is an option whose value is missing.
 pub(crate) fn read_words<'a>(
     command: CommandName,
     words: &[&'a str],
@@ -85,7 +90,13 @@ pub(crate) fn read_words<'a>(
 }
 
 impl<'a> Reading<'a> {
-    /// Reads one more word.
+    /// Reads one more argument.
+    ///
+    /// # Errors
+    ///
+    /// [`UsageError::UnknownOption`] if it begins with a dash but is not an option, [`UsageError::NotOfCommand`] if `command`
+    /// does not have the option, [`UsageError::Repeated`] if the option was given before, [`UsageError::NeedlessValue`] if it has
+    /// a value and takes none, and [`UsageError::ExtraFile`] if it is a file name and `command` takes no more files.
     fn take(&mut self, command: CommandName, word: &'a str) -> Result<(), UsageError<'a>>
         ensures read { IfOk result (λ _. (words : List (List ℕ)) → IsRead command words self.old
             → IsRead command (words ++ word.now ∷ []) self.new) }
@@ -126,7 +137,7 @@ impl<'a> Reading<'a> {
         }
     }
 
-    /// Rejects an option that the command does not have, or that is given a second time.
+    /// Rejects an option that `command` does not have, or that is given a second time.
     fn admit(&self, command: CommandName, option: OptionName) -> Result<(), UsageError<'a>>
         ensures own { IfOk result (λ _. Contains (options_of command) option) }
         ensures first { IfOk result (λ _. given_to self.now.given option ≡ []) }

@@ -1,4 +1,4 @@
-//! The texts of help: how the program and each command are called.
+//! The texts that help prints.
 
 use crate::command::{CommandName, Topic};
 
@@ -183,8 +183,8 @@ Samples of more than 8 bits are two bytes, little-endian. YUV4MPEG2 files are
 planar: to write a semi-planar format, add --raw-output.
 ";
 
-/// Returns the help of a topic. Of a command it is the part before the options: [`CommandName::options`] lists these, and
-/// [`OptionName::help`](crate::OptionName::help) returns the help of each.
+/// Returns the help of a topic. For a command, this is the part before the options: [`CommandName::options`] lists the options,
+/// and [`OptionName::help`](crate::OptionName::help) returns the help of each.
 pub fn usage_text(topic: Topic) -> &'static str {
     match topic {
         Topic::Program => ALL,

@@ -13,12 +13,12 @@ use v_frame_formats::{Component, Rectangle, VideoFormat};
 use v_frame_rgb::{ColorRange, Standard};
 use v_frame_y4m::Ratio;
 
-/// A type of values that an option takes.
+/// A type of option values.
 pub(crate) trait OptionValue: Copy {
     // The text spells the value.
     ghost Spells: { Self → List ℕ → Type 0 };
 
-    /// Returns the value that a text spells.
+    /// Returns the value that a text spells, or `None` if it spells none.
     fn spelled(text: &str) -> Option<Self>
         ensures { MatchOption result ((v : Self) → ¬ (Spells v text.now)) (λ v. Spells v text.now) };
 }
@@ -31,7 +31,7 @@ impl OptionValue for u64 {
     }
 }
 
-/// Returns the number that a text spells: decimal digits without a sign and without leading zeros.
+/// Returns the number that a text spells, or `None` if it spells none: decimal digits without a sign and without leading zeros.
 pub(crate) fn number(text: &str) -> Option<u64>
     ensures { MatchOption result ((n : ℕ) → ¬ (IsNumber n text.now)) (λ n. IsNumber n text.now) }
 {
@@ -44,7 +44,7 @@ pub(crate) fn number(text: &str) -> Option<u64>
     }
 }
 
-/// Returns whether digits begin without a plus sign, and without a leading zero.
+/// Returns whether digits begin without a plus sign and without a leading zero.
 fn has_canonical_start(digits: &[u8]) -> bool
     ensures { IsTrue result ↔ ((slice_index digits.now 0 ≢ 43)
         × (slice_index digits.now 0 ≡ 48 → length digits.now ≡ 1)) }
@@ -68,8 +68,8 @@ impl OptionValue for u16 {
     }
 }
 
-/// Cuts a text at the first `mark`. Returns the number before it and the text after it, or `None` if there is no mark or no number
-/// before it.
+/// Splits a text at the first `mark`. Returns the number before it and the text after it, or `None` if there is no mark or no
+/// number before it.
 pub(crate) fn number_before(text: &str, mark: char) -> Option<(u64, &str)>
     requires ascii { mark < 128 }
     requires apart { ¬ (IsInRange 48 57 mark) }
@@ -107,7 +107,7 @@ impl OptionValue for Ratio {
     }
 }
 
-/// Returns the ratio of two numbers above 0 that have this mark between them.
+/// Returns the ratio of two numbers above 0 that are separated by `mark`, or `None` if the text is no such ratio.
 fn ratio_with(text: &str, mark: char) -> Option<Ratio>
     requires ascii { mark < 128 }
     requires apart { ¬ (IsInRange 48 57 mark) }
@@ -144,7 +144,7 @@ fn lacks_pixels(width: usize, height: usize) -> bool
     width == 0 || height == 0
 }
 
-/// Returns the rectangle that four numbers with commas between them spell.
+/// Returns the rectangle that a text spells as four numbers separated by commas, or `None` if it spells none.
 fn rectangle(text: &str) -> Option<Rectangle>
     ensures { MatchOption result ((r : TheRectangle) → ¬ (SpellsRectangle r text.now))
         (λ r. SpellsRectangle r text.now) }
@@ -173,7 +173,7 @@ impl OptionValue for RawVideo {
     }
 }
 
-/// Returns the headerless video that a text spells, whose size may be 0.
+/// Returns the headerless video that a text describes, or `None` if it describes none. Its size may be 0.
 fn raw_video(text: &str) -> Option<RawVideo>
     ensures { MatchOption result ((raw : TheRaw) → ¬ (SpellsRaw raw text.now))
         (λ raw. SpellsRaw raw text.now) }
@@ -190,7 +190,8 @@ fn raw_video(text: &str) -> Option<RawVideo>
     })
 }
 
-/// Returns the format, whether its samples have full range, and the rate after an at sign, if there is one.
+/// Returns the format, whether its samples have full range, and the rate after an at sign, if there is one. Returns `None` if a
+/// part is wrong.
 fn format_and_rate(text: &str) -> Option<(VideoFormat, bool, Option<Ratio>)>
     ensures { MatchOption result
         ((format : TheFormat) (full : Bool) (rate : Option TheRatio) → ¬ (SpellsFormat format full rate text.now))
@@ -209,7 +210,7 @@ fn format_and_rate(text: &str) -> Option<(VideoFormat, bool, Option<Ratio>)>
     }
 }
 
-/// Returns the format of a name, and whether its samples have full range.
+/// Returns the format with this name, and whether its samples have full range, or `None` if no format has the name.
 pub(crate) fn raw_format(name: &str) -> Option<(VideoFormat, bool)>
     ensures { MatchOption result ((format : TheFormat) (full : Bool) → ¬ (NamesRaw format full name.now))
         (λ found. NamesRaw found.0 found.1 name.now) }

@@ -1,16 +1,16 @@
-//! Classifies single words: file names and options.
+//! Classifies single arguments as file names and options.
 ghost use Rattle.std.specs.Prelude.{List, ℕ, ◌≡◌, ◌↔◌, IsTrue};
 ghost use Rattle.yuv_words.specs.Reading.{IsWord};
 ghost use Rattle.yuv_words.specs.Words.{IsFileWord};
 
 use crate::option_name::OptionName;
 
-/// The kind of a word before `--`.
+/// The kind of an argument before `--`.
 #[derive(Clone, Copy)]
 pub(crate) enum Word<'a> {
     /// A file name.
     File,
-    /// An option. If it takes a value, the value is the next word.
+    /// An option. If it takes a value, the value is the next argument.
     Option(OptionName),
     /// An option with its value after an equals sign.
     Joined(OptionName, &'a str),
@@ -18,7 +18,7 @@ pub(crate) enum Word<'a> {
     Unknown,
 }
 
-/// Returns the kind of a word.
+/// Returns the kind of an argument.
 pub(crate) fn word_of(word: &str) -> Word<'_>
     ensures { IsWord word.now result }
 {
@@ -37,7 +37,7 @@ pub(crate) fn word_of(word: &str) -> Word<'_>
     }
 }
 
-/// Returns whether a word before `--` is a file name: it does not begin with a dash, or it is a single dash.
+/// Returns whether an argument before `--` is a file name: whether it does not begin with a dash, or is a single dash.
 fn is_file(word: &[u8]) -> bool
     ensures { IsTrue result ↔ IsFileWord word.now }
 {

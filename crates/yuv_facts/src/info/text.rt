@@ -1,4 +1,4 @@
-//! What is said of a stream, one line a fact.
+//! The text of `info`: the properties of a stream, one in each line.
 ghost use Rattle.std.specs.Prelude.{◌≡◌, ◌*◌, ◌/◌, ◌++◌, codes, flat_map, string_bytes, IfOk, IfSome, OnOk};
 ghost use Rattle.yuv_facts.specs.Facts.{bytes_fact, chroma_text, extension_fact, fact, file_fact, format_facts, interlacing_fact, interlacing_text, ratio_fact, siting_fact, siting_text, stated_facts, stream_facts};
 ghost use Rattle.yuv_facts.specs.Info.{count_line};
@@ -8,7 +8,7 @@ use std::alloc::{AllocError, Global};
 use v_frame::chroma::ChromaSubsampling;
 use v_frame_y4m::{ChromaSiting, Interlacing, Ratio, StreamHeader, Text};
 
-/// Returns what the header says, how many bytes a frame has, and the file, where that is known.
+/// Returns the lines for the properties in the header, the size of a frame, and the size of the file if it is known.
 pub(crate) fn format_text(
     alloc: Global,
     header: &StreamHeader,
@@ -26,7 +26,7 @@ pub(crate) fn format_text(
     Ok(text)
 }
 
-/// Appends how many bytes a frame has, and the file, where that is known.
+/// Appends the size of a frame in bytes, and the size of the file if it is known.
 fn push_sizes(text: &mut String, frame_len: usize, file_len: Option<u64>) -> Result<(), AllocError>
     ensures { OnOk result (string_bytes text.new ≡ string_bytes text.old
         ++ (bytes_fact (codes "frame size") frame_len ++ file_fact file_len)) }
@@ -35,7 +35,7 @@ fn push_sizes(text: &mut String, frame_len: usize, file_len: Option<u64>) -> Res
     push_file(text, file_len)
 }
 
-/// Appends how many bytes the file has, where that is known.
+/// Appends the size of the file in bytes, if it is known.
 fn push_file(text: &mut String, len: Option<u64>) -> Result<(), AllocError>
     ensures { OnOk result (string_bytes text.new ≡ string_bytes text.old ++ file_fact len) }
 {
@@ -45,7 +45,7 @@ fn push_file(text: &mut String, len: Option<u64>) -> Result<(), AllocError>
     }
 }
 
-/// Appends a number of bytes under this name.
+/// Appends a line with a number of bytes.
 fn push_bytes(text: &mut String, name: &str, count: u64) -> Result<(), AllocError>
     ensures { OnOk result (string_bytes text.new
         ≡ string_bytes text.old ++ bytes_fact name.now count) }
@@ -53,7 +53,7 @@ fn push_bytes(text: &mut String, name: &str, count: u64) -> Result<(), AllocErro
     writeln!(text, "{name}: {count} bytes")
 }
 
-/// Returns how many frames there are, and how long they take where the header says their rate.
+/// Returns the lines for the number of frames and, if the header states a frame rate, for their duration.
 pub(crate) fn frames_text(
     alloc: Global,
     header: &StreamHeader,
@@ -67,7 +67,7 @@ pub(crate) fn frames_text(
     Ok(text)
 }
 
-/// Appends how long the frames take, where the header says their rate.
+/// Appends the duration of the frames, if the header states a frame rate.
 fn push_duration(text: &mut String, header: &StreamHeader, frames: u64) -> Result<(), AllocError>
     ensures { OnOk result (BeginsWith (string_bytes text.old) (string_bytes text.new)) }
 {
@@ -78,7 +78,7 @@ fn push_duration(text: &mut String, header: &StreamHeader, frames: u64) -> Resul
     writeln!(text, "duration: {seconds}.{rest:03} s")
 }
 
-/// Returns how many milliseconds so many frames take, rounded down. `None` where the rate is unknown.
+/// Returns the duration of `frames` frames in milliseconds, rounded down, or `None` if the rate is unknown.
 fn duration(frames: u64, rate: Option<Ratio>) -> Option<u128>
     ensures { IfSome result (λ milliseconds. IfSome rate (λ rate. milliseconds
         ≡ frames * rate.denominator * 1000 / rate.numerator)) }
@@ -91,7 +91,7 @@ fn duration(frames: u64, rate: Option<Ratio>) -> Option<u128>
     Some(product / u128::from(rate.numerator))
 }
 
-/// Appends the size of a frame, and what its pixels are.
+/// Appends the size of a frame, its chroma subsampling and its bit depth.
 fn push_format(text: &mut String, header: &StreamHeader) -> Result<(), AllocError>
     ensures { OnOk result (string_bytes text.new
         ≡ string_bytes text.old ++ format_facts header.now) }
@@ -104,7 +104,7 @@ fn push_format(text: &mut String, header: &StreamHeader) -> Result<(), AllocErro
     writeln!(text, "bit depth: {depth}")
 }
 
-/// Returns how people write a chroma subsampling.
+/// Returns the usual name of a chroma subsampling, as 4:2:0.
 fn chroma_name(subsampling: ChromaSubsampling) -> &'static str
     ensures { result.now ≡ chroma_text subsampling }
 {
@@ -117,7 +117,7 @@ fn chroma_name(subsampling: ChromaSubsampling) -> &'static str
     }
 }
 
-/// Appends a line of this name and this value.
+/// Appends a line with a name and a value.
 fn push_fact(text: &mut String, name: &str, value: &str) -> Result<(), AllocError>
     ensures { OnOk result (string_bytes text.new
         ≡ string_bytes text.old ++ fact name.now value.now) }
@@ -125,7 +125,8 @@ fn push_fact(text: &mut String, name: &str, value: &str) -> Result<(), AllocErro
     writeln!(text, "{name}: {value}")
 }
 
-/// Appends where chroma is sited, the rate, the interlacing and the shape of a pixel, where the header says them.
+/// Appends the position of chroma samples, the frame rate, the interlacing and the pixel aspect ratio, each if the header states
+/// it.
 fn push_facts(text: &mut String, header: &StreamHeader) -> Result<(), AllocError>
     ensures { OnOk result (string_bytes text.new
         ≡ string_bytes text.old ++ stated_facts header.now) }
@@ -136,7 +137,7 @@ fn push_facts(text: &mut String, header: &StreamHeader) -> Result<(), AllocError
     push_ratio(text, "pixel aspect", &header.pixel_aspect)
 }
 
-/// Appends where chroma is sited, where the header says it.
+/// Appends the position of chroma samples, if the header states it.
 fn push_siting(text: &mut String, siting: Option<ChromaSiting>) -> Result<(), AllocError>
     ensures { OnOk result (string_bytes text.new ≡ string_bytes text.old ++ siting_fact siting) }
 {
@@ -146,7 +147,7 @@ fn push_siting(text: &mut String, siting: Option<ChromaSiting>) -> Result<(), Al
     push_fact(text, "chroma siting", siting_name(siting))
 }
 
-/// Returns where chroma is sited, in words.
+/// Returns the position of chroma samples as text.
 fn siting_name(siting: ChromaSiting) -> &'static str
     ensures { result.now ≡ siting_text siting }
 {
@@ -157,7 +158,7 @@ fn siting_name(siting: ChromaSiting) -> &'static str
     }
 }
 
-/// Appends the interlacing, where the header says it.
+/// Appends the interlacing, if the header states it.
 fn push_interlacing(text: &mut String, interlacing: Option<Interlacing>) -> Result<(), AllocError>
     ensures { OnOk result (string_bytes text.new
         ≡ string_bytes text.old ++ interlacing_fact interlacing) }
@@ -168,7 +169,7 @@ fn push_interlacing(text: &mut String, interlacing: Option<Interlacing>) -> Resu
     push_fact(text, "interlacing", interlacing_name(interlacing))
 }
 
-/// Returns the interlacing in words.
+/// Returns the interlacing as text.
 fn interlacing_name(interlacing: Interlacing) -> &'static str
     ensures { result.now ≡ interlacing_text interlacing }
 {
@@ -181,7 +182,7 @@ fn interlacing_name(interlacing: Interlacing) -> &'static str
     }
 }
 
-/// Appends a ratio under this name, where the header says it.
+/// Appends a line with a ratio, if the header states it.
 fn push_ratio(text: &mut String, name: &str, ratio: &Option<Ratio>) -> Result<(), AllocError>
     ensures { OnOk result (string_bytes text.new
         ≡ string_bytes text.old ++ ratio_fact name.now ratio.now) }
@@ -193,7 +194,7 @@ fn push_ratio(text: &mut String, name: &str, ratio: &Option<Ratio>) -> Result<()
     writeln!(text, "{name}: {numerator}:{denominator}")
 }
 
-/// Appends the parameters `X`.
+/// Appends the extensions of the header (parameters that begin with `X`).
 fn push_extensions(text: &mut String, header: &StreamHeader) -> Result<(), AllocError>
     ensures { OnOk result (string_bytes text.new
         ≡ string_bytes text.old ++ flat_map extension_fact header.now.extensions) }
@@ -205,7 +206,7 @@ fn push_extensions(text: &mut String, header: &StreamHeader) -> Result<(), Alloc
     Ok(())
 }
 
-/// Appends a parameter `X`, its bytes that are no printed ASCII as `?`.
+/// Appends an extension of the header. Bytes that are not printable ASCII are shown as `?`.
 fn push_extension(text: &mut String, bytes: &[u8]) -> Result<(), AllocError>
     ensures { OnOk result (string_bytes text.new
         ≡ string_bytes text.old ++ extension_fact bytes.now) }

@@ -1,4 +1,4 @@
--- The columns so far are there.
+-- The list has the columns so far.
 use Rattle.std.proofs.Common.{◌≡◌, map}
 use Rattle.std.specs.List.{range_with_len}
 use Rattle.v_frame_chart.specs.Columns.{column_of, summary_of}

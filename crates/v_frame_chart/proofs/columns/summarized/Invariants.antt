@@ -1,4 +1,4 @@
--- The finite values so far are gathered.
+-- The finite values so far are summarized.
 use Rattle.std.proofs.Common.{◌≡◌, ◌≤◌, take, length, true, false}
 use Rattle.std.specs.List.{fold}
 use Rattle.std.specs.Float.Ieee.{inf}

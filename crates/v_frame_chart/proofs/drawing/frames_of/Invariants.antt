@@ -1,4 +1,4 @@
--- The longest so far.
+-- The length of the longest series so far.
 use Rattle.std.proofs.Common.{◌≡◌, ◌<◌, ◌^◌, take}
 use Rattle.v_frame_chart.specs.Charts.{frames_of}
 use Rattle.v_frame_chart.proofs.drawing.frames_of.Given as goal

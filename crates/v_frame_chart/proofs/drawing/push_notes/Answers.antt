@@ -1,4 +1,4 @@
--- One note after the other.
+-- The notes follow one another.
 use Rattle.v_frame_chart.specs.Charts.{notes_text}
 use Rattle.v_frame_chart.proofs.Appended.{joined}
 use Rattle.v_frame_chart.proofs.drawing.push_notes.Goals as goal

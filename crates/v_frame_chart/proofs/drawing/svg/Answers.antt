@@ -1,4 +1,4 @@
--- Over the axes that were chosen.
+-- The chart has the axes that were chosen.
 use Rattle.std.proofs.Common.{rules}
 use Rattle.v_frame_chart.proofs.drawing.svg.Goals as goal
 

@@ -1,4 +1,4 @@
--- What was sent is the chart.
+-- The text that was written is the chart.
 use Rattle.std.proofs.Common.{◌≡◌, ◌∙◌, rules, string_bytes}
 use Rattle.v_frame_chart.specs.Charts.{chart_text}
 use Rattle.v_frame_chart.proofs.Charted.{charted, none_written, on_err_of}

@@ -7,7 +7,7 @@ use Rattle.v_frame_chart.proofs.Appended.{marked_more}
 use Rattle.v_frame_chart.proofs.Marked.{marks_lie}
 use Rattle.v_frame_chart.proofs.frames.push_frame_marks.Goals as goal
 
--- so many steps from the first mark on
+-- The mark that is `k` steps after the first mark lies on the axis.
 lies : (first span step start count k : ℕ) → start ≡ first_mark first step → start < step
     → count ≡ mark_count first span step → k < count → start + k * step ≤ span
 unfolding mark_count

@@ -1,4 +1,4 @@
--- The characters that were yielded are those of the words.
+-- The characters that the iterator returned are those of the text.
 use Rattle.std.proofs.Common.{◌++◌, sym, ap, ◌∙◌, string_bytes}
 use Rattle.std.specs.Prelude.{flat_map}
 use Rattle.std.proofs.lemmas.Iterator.{YieldsList-from_chars}

@@ -1,4 +1,4 @@
--- Ten to the 309th is past the greatest float.
+-- The number 10 ^ 309 is above the greatest float.
 use Rattle.std.proofs.Common.{refl}
 use Rattle.std.specs.Float.Ieee.{mul, of_int}
 use Rattle.v_frame_chart.specs.Scales.{number_at, ten_power, value_of}

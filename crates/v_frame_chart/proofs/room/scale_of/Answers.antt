@@ -1,4 +1,4 @@
--- The room was tested, or is endless.
+-- The scale passed the test, or it is from minus infinity to infinity.
 use Rattle.std.proofs.Common.{sym, ◌∙◌}
 use Rattle.v_frame_chart.proofs.Extents.{endless_room, passed}
 use Rattle.v_frame_chart.proofs.room.scale_of.Goals as goal

@@ -1,4 +1,4 @@
--- The file is in front of the buffer, or would not fit.
+-- The file is at the beginning of the buffer, or does not fit.
 use Rattle.std.proofs.Common.{◌≡◌, length, arith, rules}
 use Rattle.std.proofs.lemmas.Grind.{common_steps}
 use Rattle.v_frame_png.specs.Prelude.{IsFile}

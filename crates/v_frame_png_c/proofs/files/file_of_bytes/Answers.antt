@@ -1,4 +1,4 @@
--- The file was empty when it was begun.
+-- The file was empty when writing began.
 use Rattle.v_frame_png_c.proofs.WholeFile.{whole_file}
 use Rattle.v_frame_png_c.proofs.files.file_of_bytes.Goals as goal
 

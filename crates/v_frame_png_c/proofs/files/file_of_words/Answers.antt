@@ -1,4 +1,4 @@
--- The file was empty when it was begun, all rows are drawn, and it is finished.
+-- The file was empty when writing began. All rows are written, and the file is complete.
 use Rattle.std.proofs.Common.{[], map, ◌∙◌}
 use Rattle.v_frame_png.specs.Prelude.{big_endian}
 use Rattle.v_frame_png_c.proofs.WholeFile.{whole_file}

@@ -1,4 +1,4 @@
--- The contract of the copy of rows is one of the pictures.
+-- The contract of the copy of rows implies the one of the pictures.
 use Rattle.std.proofs.Common.{arith, rules}
 use Rattle.std.proofs.lemmas.Grind.{common_steps}
 use Rattle.std.proofs.lemmas.Int.{ints}

@@ -1,4 +1,4 @@
--- The two components of chroma have one size, and each earlier test has its status.
+-- The two chroma planes have the same size, and each earlier test has its status.
 use Rattle.std.proofs.Common.{◌≡◌, true, false, length, refl, arith, rules}
 use Rattle.std.proofs.lemmas.Bool.{false_from_ne_true}
 use Rattle.std.proofs.lemmas.Bool.Decides.{nat_tests}

@@ -1,4 +1,4 @@
--- Both parts of the rows are lowered in place.
+-- The samples of both parts of the rows are divided in place.
 use Rattle.std.proofs.Common.{ℕ, ◌-◌, ◌/◌, ◌^◌, sym, ◌∙◌, ap}
 use Rattle.v_frame_ops.specs.Prelude.{mapped}
 use Rattle.v_frame_raster.proofs.tables.StridedWrites.{rest_kept}

@@ -1,4 +1,4 @@
--- The interleaved rows are raised in place.
+-- The samples of the interleaved rows are multiplied in place.
 use Rattle.std.proofs.Common.{◌∙◌, ap}
 use Rattle.v_frame_slices.specs.TopBits.{in_top_bits}
 use Rattle.v_frame_raster.proofs.tables.StridedWrites.{rest_kept}

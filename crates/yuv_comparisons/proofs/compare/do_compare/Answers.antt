@@ -1,4 +1,4 @@
--- The report is of the two streams that were opened.
+-- The report is about the two streams that were opened.
 use Rattle.std.proofs.Common.{◌∙◌, refl}
 use Rattle.v_frame_streams.specs.Prelude.{bytes_left}
 use Rattle.yuv_system.specs.InputFiles.{bytes_of_input}

@@ -1,4 +1,4 @@
--- The report ends as the last text that was written.
+-- The report ends with the text that was written last.
 use Rattle.std.proofs.Common.{◌∙◌, ap, inl, inr, refl, sym}
 use Rattle.std.proofs.lemmas.Bool.{cases_eq}
 use Rattle.std.specs.Prelude.{unwrap_or}

@@ -1,4 +1,5 @@
--- Both frames are those behind as many, and their difference is drawn by the gain that is asked for.
+-- The same number of frames precedes both frames, and their difference is drawn with the requested
+-- gain.
 use Rattle.std.proofs.Common.{ℕ, ◌*◌, ◌≤◌, subst}
 use Rattle.v_frame.specs.Prelude.{tables_of}
 use Rattle.yuv_comparisons.specs.Differences.{DrawsDifference}

@@ -1,4 +1,4 @@
--- One step after a multiple is the next multiple.
+-- A multiple plus one step is the next multiple.
 use Rattle.std.proofs.Common.{◌≡◌, ◌∙◌, ◌+◌, ◌-◌, ◌*◌, ◌/◌, ◌%◌, ℕ, ap, arith}
 use Rattle.std.proofs.Math.Nat.{mod-add-div', mul-add-mod_self_right, mul-mod_left}
 use Rattle.yuv_copies.proofs.copy.nearest_multiple.Goals as goal
@@ -11,7 +11,7 @@ returns-clause-multiple c =
     ap (λ (n : ℕ). (n + step) % step) below ∙ mul-add-mod_self_right (row / step) step step
     ∙ ap (λ (n : ℕ). n % step) {x = step} {y = 1 * step} (omega arith) ∙ mul-mod_left 1 step
 
--- and what is left without the rest is a multiple
+-- A row minus the remainder of its division is a multiple.
 pub returns-then-rest-step-clause-multiple : goal.returns-then-rest-step-clause-multiple
 returns-then-rest-step-clause-multiple c =
     let row = c.args.row in

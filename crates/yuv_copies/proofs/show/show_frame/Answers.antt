@@ -1,4 +1,4 @@
--- What is shown is the picture that was read, or a part of it.
+-- The picture that was read, or a part of it, is shown.
 use Rattle.std.proofs.Common.{◌≡◌, ◌∙◌, ap, refl, subst}
 use Rattle.std.proofs.lemmas.Result.{IfOk-weaker}
 use Rattle.std.specs.Prelude.{IfOk, IsSomeAnd}

@@ -1,4 +1,4 @@
--- The report is of the stream that was opened.
+-- The report is about the stream that was opened.
 use Rattle.std.proofs.Common.{refl, subst}
 use Rattle.std.specs.Io.KnownBytes.{Appends}
 use Rattle.v_frame_streams.specs.Prelude.{bytes_left}

@@ -1,4 +1,4 @@
--- The frames in front of the one that was not read were counted, and their count was reported.
+-- The frames before the one that could not be read were counted, and their number was written.
 use Rattle.std.proofs.Common.{◌≡◌, Err, Result, subst, ℕ}
 use Rattle.std.proofs.lemmas.Result.{err_from_is_err_and}
 use Rattle.std.specs.Prelude.{string_bytes, IfErr}

@@ -1,4 +1,4 @@
--- The facts were written first.
+-- The properties were written first.
 use Rattle.std.proofs.Common.{◌∙◌, ℕ, List, Ok, Err, Result, ap, subst, sym}
 use Rattle.std.proofs.lemmas.Result.{on_ok_weaker, IfErr-weaker}
 use Rattle.std.specs.Prelude.{OnOk}

@@ -1,4 +1,4 @@
--- How many values so far are outside.
+-- The number of samples with one of the values so far that are outside the range.
 use Rattle.std.proofs.Common.{◌≡◌, ◌-◌, ◌^◌, min, take}
 use Rattle.yuv_facts.specs.Statistics.{outside_from}
 use Rattle.yuv_facts.proofs.statistics.outside.Given as goal

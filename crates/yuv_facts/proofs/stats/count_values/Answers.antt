@@ -1,4 +1,4 @@
--- What was passed over, and then what was counted.
+-- The skipped frames precede the frames that are counted.
 use Rattle.std.proofs.Common.{ℕ, ◌≡◌, ◌^◌, rules, subst}
 use Rattle.std.proofs.lemmas.Result.{IfOk-weaker}
 use Rattle.std.specs.Prelude.{unwrap_or, IfOk}

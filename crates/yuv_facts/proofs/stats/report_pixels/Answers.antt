@@ -1,4 +1,4 @@
--- The text was made of what was counted, and written.
+-- The text was created from the counts, and written.
 use Rattle.std.proofs.Common.{◌∙◌, ◌^◌, ℕ, ap, string_bytes, subst}
 use Rattle.std.proofs.lemmas.Result.{IfOk-weaker}
 use Rattle.v_frame_rgb.specs.declared.standard.ColorRange.{ColorRange}

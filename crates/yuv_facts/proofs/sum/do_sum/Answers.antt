@@ -1,4 +1,4 @@
--- The lines are of the stream that was opened.
+-- The lines are about the stream that was opened.
 use Rattle.std.proofs.Common.{refl, subst}
 use Rattle.v_frame_streams.specs.Prelude.{bytes_left, sizes_in}
 use Rattle.yuv_system.specs.InputFiles.{bytes_of_input}

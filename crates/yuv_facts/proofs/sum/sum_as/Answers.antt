@@ -1,4 +1,4 @@
--- What was passed over, and then what was summed.
+-- The skipped frames precede the frames with checksums.
 use Rattle.std.proofs.Common.{ℕ, ◌≡◌, rules, subst}
 use Rattle.std.specs.Prelude.{unwrap_or}
 use Rattle.yuv_facts.specs.Checksums.{SumsFrames}

@@ -1,4 +1,4 @@
--- The counts of the values so far have grown, and the others are as they were.
+-- The counts of the values so far have grown, and the others are unchanged.
 use Rattle.std.proofs.Common.{◌≡◌, ◌+◌, ◌-◌, ◌^◌, ◌<◌, ◌≤◌, ℕ, min}
 use Rattle.std.specs.Prelude.{slice_index}
 use Rattle.yuv_facts.proofs.values.add_counts.Given as goal

@@ -1,4 +1,4 @@
--- The three rows of one line are those of the tables.
+-- The three rows that are read are rows of the tables.
 use Rattle.std.proofs.Common.{length, sym, ◌∙◌}
 use Rattle.v_frame_rgb.specs.Exact.{exact_of_pixels}
 use Rattle.yuv_pictures.specs.Colors.{rgb_bytes}

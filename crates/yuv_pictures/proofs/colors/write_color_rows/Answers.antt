@@ -1,4 +1,4 @@
--- One more row is drawn, and then the file is finished.
+-- One more row is written. After the last row, the file is complete.
 use Rattle.std.proofs.Common.{◌≡◌, ◌≤◌, take, length, ap, ◌∙◌, arith, take_all, length-take-le}
 use Rattle.std.proofs.lemmas.Grind.{common_steps}
 use Rattle.v_frame_rgb.specs.Exact.{exact_color_rows, exact_of_pixels}

@@ -1,4 +1,4 @@
--- The rows before are drawn.
+-- The previous rows are written.
 use Rattle.std.proofs.Common.{◌≡◌, ◌*◌, take, vec_len}
 use Rattle.v_frame.specs.Prelude.{width_of}
 use Rattle.v_frame_png.specs.Writing.{HasDrawn}

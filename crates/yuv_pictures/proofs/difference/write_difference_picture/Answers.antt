@@ -1,4 +1,4 @@
--- The plane that is written has the size of luma, and shows the differences.
+-- The plane that is written has the size of luma, and contains the differences.
 use Rattle.std.proofs.Common.{ap}
 use Rattle.yuv_pictures.proofs.difference.write_difference_picture.Goals as goal
 

@@ -1,4 +1,4 @@
--- The finished file is that of the writer which is handed back.
+-- The complete file is the contents of the writer that is returned.
 use Rattle.yuv_pictures.proofs.file.end.Goals as goal
 
 pub returns-in-Ok-clause-file : goal.returns-in-Ok-clause-file

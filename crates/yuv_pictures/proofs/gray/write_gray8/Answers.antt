@@ -1,4 +1,4 @@
--- All rows are drawn, and the file is finished.
+-- All rows are written, and the file is complete.
 use Rattle.std.proofs.Common.{[], length, ap, ◌∙◌, arith}
 use Rattle.std.proofs.lemmas.List.{length-map}
 use Rattle.v_frame.specs.Prelude.{table_of}

@@ -1,4 +1,4 @@
--- The plane of the name is that which was written.
+-- The plane with the name is the plane that was written.
 use Rattle.std.proofs.Common.{◌≡◌, Some, sym, ap, ◌∙◌}
 use Rattle.v_frame.specs.Prelude.{plane_at}
 use Rattle.yuv_pictures.specs.Planes.{plane_named}

@@ -1,4 +1,4 @@
--- The names one after the other.
+-- The names follow one another.
 use Rattle.std.proofs.Common.{[], ◌∷◌, if◌then◌else◌, codes, Bool, is_some}
 use Rattle.std.specs.String.{string_bytes}
 use lib.Utf8.{encode}

@@ -1,4 +1,4 @@
--- The last two members, one after the other.
+-- The last two members follow one another.
 use Rattle.std.proofs.Common.{◌++◌, ◌∷◌, codes}
 use Rattle.std.specs.String.{string_bytes}
 use lib.Utf8.{encode}

@@ -1,4 +1,4 @@
--- The members one after the other.
+-- The members follow one another.
 use Rattle.std.proofs.Common.{◌++◌, ◌∙◌, ap, append-nil, codes, decimal}
 use Rattle.std.specs.String.{string_bytes}
 use lib.Utf8.{encode}

@@ -1,4 +1,4 @@
--- The line of a difference that was found.
+-- The line of a difference.
 use Rattle.std.proofs.Common.{append_assoc}
 use Rattle.yuv_reports.proofs.lines.push_difference.Goals as goal
 

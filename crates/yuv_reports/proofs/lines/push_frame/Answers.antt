@@ -1,4 +1,4 @@
--- The values of the frame behind its number.
+-- The values of the frame follow its number.
 use Rattle.std.proofs.Common.{◌++◌, ◌∙◌, ap, codes, decimal}
 use Rattle.std.specs.String.{string_bytes}
 use lib.Utf8.{encode}

@@ -1,4 +1,4 @@
--- One more digit, and all of them.
+-- One more digit, and the complete checksum.
 use Rattle.std.proofs.Common.{◌++◌, ◌∷◌, ◌∙◌, [], ap, append_assoc, arith, sym, take, ◌≡◌}
 use Rattle.std.proofs.Math.ListN.{get_or}
 use Rattle.std.specs.Prelude.{map}

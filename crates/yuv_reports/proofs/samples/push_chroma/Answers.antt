@@ -1,4 +1,4 @@
--- The checksums of U and V, one after the other.
+-- The checksums of U and V follow one another.
 use Rattle.std.specs.String.{string_bytes}
 use Rattle.yuv_reports.specs.Samples.{checksum_word}
 use Rattle.yuv_reports.proofs.Parts.{two_parts}

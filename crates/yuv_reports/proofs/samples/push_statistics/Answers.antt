@@ -1,4 +1,4 @@
--- The line around its mean.
+-- The line consists of a text, the mean and another text.
 use Rattle.std.specs.String.{string_bytes}
 use Rattle.yuv_reports.proofs.Parts.{around}
 use Rattle.yuv_reports.specs.Samples.{statistics_end, statistics_front}

@@ -1,4 +1,4 @@
--- The text is among the extensions that are left, if it is among all.
+-- If the text is one of all extensions, it is one of the remaining extensions.
 use Rattle.std.proofs.Common.{◌≡◌, drop}
 use Rattle.std.specs.List.{list_any}
 use Rattle.std.specs.Str.{bytes_eq}

@@ -1,4 +1,4 @@
--- The words in front of `--` ask for help, or they do not.
+-- An argument before `--` requests help, or none does.
 use Rattle.std.proofs.Common.{ℕ, ◌≡◌, ◌<◌, ◌∙◌, List, [], ◌∷◌, Bool, true, false, below_more, arith, ap, get_or, length, refl, rules, subst, sym}
 use Rattle.std.specs.List.{list_any}
 use Rattle.yuv_words.specs.Calls.{is_help_option, AsksHelp}

@@ -1,4 +1,4 @@
--- No word so far asks for help.
+-- No argument so far requests help.
 use Rattle.std.proofs.Common.{ℕ, ◌≡◌, ◌<◌, [], false, get_or}
 use Rattle.yuv_words.specs.Calls.{is_help_option}
 use Rattle.yuv_words.specs.Words.{texts_of}

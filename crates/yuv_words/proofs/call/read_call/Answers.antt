@@ -1,4 +1,4 @@
--- What was read is the call.
+-- The files and options that were read are those of the command.
 use Rattle.std.proofs.Common.{subst, ap, ◌∙◌, ◌++◌, List, ℕ}
 use Rattle.std.proofs.lemmas.Result.{err_from_is_err_and, IfErr-weaker, IfOk-weaker}
 use Rattle.yuv_words.specs.Calls.{IsCall}

@@ -1,4 +1,4 @@
--- Words whose first one names a command are its call, or nothing.
+-- Arguments that begin with the name of a command request that command or nothing.
 use Rattle.std.proofs.Common.{ℕ, ◌≡◌, List, ◌∷◌, rules, subst, sym}
 use Rattle.std.proofs.lemmas.Result.{IfErr-weaker}
 use Rattle.std.specs.Prelude.{IfErr}

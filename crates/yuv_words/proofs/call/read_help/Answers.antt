@@ -1,4 +1,4 @@
--- The word behind `--version` is one too many.
+-- The argument after `--version` is one too many.
 use Rattle.std.proofs.Common.{drop, inl, inr, refl, rules}
 use Rattle.std.proofs.lemmas.Result.{err_from_is_err_and}
 use Rattle.yuv_words.specs.Words.{texts_of}

@@ -1,4 +1,4 @@
--- The second word is one too many.
+-- The second argument is one too many.
 use Rattle.std.proofs.Common.{drop}
 use Rattle.yuv_words.specs.Words.{texts_of}
 use Rattle.yuv_words.proofs.Texts.{texts_second}

@@ -1,4 +1,4 @@
--- The texts of the parts are the parts of the texts.
+-- The texts of the two parts are the two parts of the texts.
 use Rattle.std.proofs.Common.{◌∙◌, ap, sym, take, drop, ◌+◌}
 use Rattle.std.proofs.lemmas.List.{take-map}
 use Rattle.yuv_words.specs.Words.{texts_of}

@@ -1,4 +1,4 @@
--- The first word that is the end.
+-- The first `--` is found.
 use Rattle.std.proofs.Common.{below_more, ◌∙◌, sym, arith}
 use Rattle.yuv_words.proofs.Texts.{end_found, end_here, end_missing}
 use Rattle.yuv_words.proofs.reading.end_place.Goals as goal

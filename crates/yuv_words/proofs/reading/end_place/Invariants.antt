@@ -1,4 +1,4 @@
--- No word so far is the end.
+-- No argument so far is `--`.
 use Rattle.std.proofs.Common.{ℕ, ◌≡◌, ◌<◌, [], false, get_or}
 use Rattle.yuv_words.specs.Words.{is_end, texts_of}
 use Rattle.yuv_words.proofs.reading.end_place.Given as goal

@@ -1,4 +1,4 @@
--- The words are those before, the one at hand and those behind it.
+-- The arguments are those before the current one, the current one and those after it.
 use Rattle.std.proofs.Common.{take, drop, ◌+◌, subst, sym}
 use Rattle.std.proofs.lemmas.Result.{err_from_is_err_and}
 use Rattle.std.specs.Prelude.{List, ℕ}

@@ -1,4 +1,4 @@
--- The words so far are read.
+-- The arguments so far are read.
 use Rattle.std.proofs.Common.{take}
 use Rattle.yuv_words.specs.Reading.{IsRead}
 use Rattle.yuv_words.specs.Words.{texts_of}

@@ -1,4 +1,4 @@
--- A text with an at sign is cut there.
+-- A text with an at sign is split there.
 use Rattle.std.proofs.Common.{lit<}
 use Rattle.std.specs.Prelude.{None, Some}
 use Rattle.std.proofs.lemmas.Str.Pattern.{split_parts}

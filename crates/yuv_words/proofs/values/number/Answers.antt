@@ -1,4 +1,4 @@
--- What `parse` reads is the text of a number, where it begins as one.
+-- If a text begins as a number does, `parse` succeeds exactly for the text of a number.
 use Rattle.std.proofs.Common.{◌≡◌, ◌∙◌, ◌≢◌, List, ℕ, rules, subst, get_or, length}
 use Rattle.std.specs.Prelude.{Ok, Err}
 use Rattle.v_frame_y4m.proofs.NumberTexts.{written_so}

@@ -1,4 +1,4 @@
--- Where the digits in front of the first mark are no number, none stands there.
+-- If the digits before the first mark are not a number, no number precedes the mark.
 use Rattle.yuv_words.proofs.Cuts.{no_cut, no_number}
 use Rattle.yuv_words.proofs.values.number_before.Goals as goal
 

@@ -1,4 +1,4 @@
--- The text after the mark is no number, or one of the numbers is 0.
+-- The text after the mark is not a number, or one of the two numbers is 0.
 use Rattle.yuv_words.proofs.Cuts.{rest_is}
 use Rattle.yuv_words.proofs.Said.{no_ratio}
 use Rattle.yuv_words.proofs.values.ratio_with.Goals as goal

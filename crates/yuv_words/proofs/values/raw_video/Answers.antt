@@ -1,4 +1,4 @@
--- What is behind the size is cut as that of any raw video.
+-- The text after the size is split in the same way for all headerless videos.
 use Rattle.std.proofs.Common.{subst, sym}
 use Rattle.yuv_words.specs.Values.{SpellsFormat}
 use Rattle.yuv_words.proofs.Cuts.{colon_apart, rest_is, x_apart}

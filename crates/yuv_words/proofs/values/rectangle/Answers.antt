@@ -1,4 +1,4 @@
--- What is behind the numbers so far is cut as that of any rectangle.
+-- The text after the numbers so far is split in the same way for all rectangles.
 use Rattle.yuv_words.proofs.Cuts.{comma_apart, rest_is}
 use Rattle.yuv_words.proofs.values.rectangle.Goals as goal
 

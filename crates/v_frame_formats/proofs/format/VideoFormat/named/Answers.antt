@@ -1,4 +1,4 @@
--- A format of another name is passed over.
+-- A format with a different name is skipped.
 use Rattle.std.proofs.Common.{arith, rules}
 use Rattle.v_frame_formats.proofs.Places.{format_below, format_further, named_at}
 use Rattle.v_frame_formats.proofs.format.VideoFormat.named.Goals as goal

@@ -1,4 +1,4 @@
--- A format of this name stands further on.
+-- If a format has this name, it is later in the table.
 use Rattle.std.proofs.Common.{◌≤◌}
 use Rattle.v_frame_formats.specs.Formats.{IsFormat}
 use Rattle.v_frame_formats.specs.declared.format.VideoFormat.{VideoFormat}

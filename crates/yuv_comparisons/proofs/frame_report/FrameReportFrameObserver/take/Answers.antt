@@ -1,4 +1,4 @@
--- What was said of the frame was written.
+-- The report on the frame was written.
 use Rattle.std.proofs.Common.{◌≡◌, ◌∙◌, ◌+◌, List, Option, ℕ, ap, is_some, subst, sym}
 use Rattle.std.specs.Prelude.{IsTrue, min}
 use Rattle.std.specs.String.{string_bytes}

@@ -1,4 +1,4 @@
--- One more character, and all of them.
+-- One more character, and all characters.
 use Rattle.std.proofs.Common.{◌++◌, ◌∷◌, ◌∙◌, ◌<◌, [], ℕ, ap, append_assoc, arith, if◌then◌else◌, is_ok, subst, sym, take}
 use Rattle.std.proofs.Math.ListN.{get_or}
 use Rattle.std.proofs.lemmas.List.{take_all}
@@ -8,7 +8,7 @@ use Rattle.v_frame_y4m.specs.Ascii.{shown_byte}
 use Rattle.yuv_reports.proofs.Parts.{mapped_more, three_parts}
 use Rattle.yuv_facts.proofs.info.text.push_extension.Goals as goal
 
--- what is shown is ASCII
+-- Each character that is shown is ASCII.
 shown_small : (byte : ℕ) → shown_byte byte < 128
 shown_small byte = grind arith
 

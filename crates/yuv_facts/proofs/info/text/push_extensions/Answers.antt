@@ -1,4 +1,4 @@
--- One more parameter, and all of them.
+-- One more extension, and all extensions.
 use Rattle.std.proofs.Common.{◌≡◌, ◌++◌, ◌+◌, ◌∷◌, ◌∙◌, ◌<◌, [], ℕ, List, ap, append_assoc, length, sym, take}
 use Rattle.std.proofs.Math.ListN.{get_or}
 use Rattle.std.proofs.lemmas.Grind.{flat_map-append}

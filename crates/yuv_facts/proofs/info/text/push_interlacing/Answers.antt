@@ -1,4 +1,4 @@
--- The line of an interlacing that the header says.
+-- The line of the interlacing that the header states.
 use Rattle.yuv_facts.proofs.info.text.push_interlacing.Goals as goal
 
 pub returns : goal.returns

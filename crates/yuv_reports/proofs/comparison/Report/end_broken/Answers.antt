@@ -1,4 +1,4 @@
--- An object with frames ends as that of a whole report does.
+-- An object with frames ends in the same way as a complete report.
 use Rattle.std.proofs.Common.{string_bytes, subst, sym}
 use Rattle.std.specs.Prelude.{OnOk}
 use Rattle.yuv_reports.specs.Frames.{end_of_report}

@@ -1,4 +1,4 @@
--- What is written otherwise is passed over.
+-- A command with a different name is skipped.
 use Rattle.std.proofs.Common.{arith, rules}
 use Rattle.yuv_words.proofs.Places.{command_below, command_further}
 use Rattle.yuv_words.proofs.command.CommandName.named.Goals as goal

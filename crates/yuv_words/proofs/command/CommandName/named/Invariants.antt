@@ -1,4 +1,4 @@
--- What a word is stands further on.
+-- If `word` names a command, that command is later in the table.
 use Rattle.std.proofs.Common.{◌≡◌, ◌≤◌}
 use Rattle.yuv_words.specs.Names.{command_text}
 use Rattle.yuv_words.specs.declared.command.CommandName.{CommandName}

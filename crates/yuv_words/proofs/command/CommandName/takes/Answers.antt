@@ -1,4 +1,4 @@
--- Two options are equal where their tags are.
+-- Two options are equal if their tags are equal.
 use Rattle.std.proofs.Common.{arith, rules, subst}
 use Rattle.std.proofs.lemmas.Grind.{common_steps}
 use Rattle.std.proofs.lemmas.List.Elements.{contains_decides, Decides-contains}

@@ -1,4 +1,4 @@
--- The file behind as many as the command takes is the first too many.
+-- The file after the last one that the command takes is the first file too many.
 use Rattle.std.proofs.Common.{◌+◌, ap, arith, take, drop, length}
 use Rattle.yuv_words.specs.Words.{texts_of}
 use Rattle.yuv_words.proofs.Texts.{texts_split}

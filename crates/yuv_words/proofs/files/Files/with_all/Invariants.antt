@@ -1,4 +1,4 @@
--- The files so far, which are not too many.
+-- The command takes the files so far.
 use Rattle.std.proofs.Common.{◌≡◌, ◌≤◌, ◌++◌, length, take}
 use Rattle.yuv_words.specs.Names.{file_count}
 use Rattle.yuv_words.specs.Reading.{file_names}

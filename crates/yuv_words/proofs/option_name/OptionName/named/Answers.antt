@@ -1,4 +1,4 @@
--- What is written otherwise is passed over.
+-- An option with a different text is skipped.
 use Rattle.std.proofs.Common.{arith, rules}
 use Rattle.yuv_words.proofs.Places.{option_below, option_further}
 use Rattle.yuv_words.proofs.option_name.OptionName.named.Goals as goal

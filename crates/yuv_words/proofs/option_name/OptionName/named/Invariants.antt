@@ -1,4 +1,4 @@
--- What a word is stands further on.
+-- If `word` is the text of an option, that option is later in the table.
 use Rattle.std.proofs.Common.{◌≡◌, ◌≤◌}
 use Rattle.yuv_words.specs.Names.{option_text}
 use Rattle.yuv_words.specs.Reading.{option_place}

@@ -1,4 +1,4 @@
--- Each word that is taken makes one token, or begins one.
+-- Each argument that is read completes a token or begins one.
 use Rattle.std.proofs.Common.{refl, ◌∷◌, [], ap, sym, ◌∙◌, inl, inr}
 use Rattle.std.proofs.lemmas.Result.{err_from_is_err_and}
 use Rattle.yuv_words.specs.Words.{Flag, Joined}

@@ -1,4 +1,4 @@
--- A size of 0 is none.
+-- No value has a size of 0.
 use Rattle.std.proofs.Common.{rules}
 use Rattle.yuv_words.proofs.Said.{no_raw}
 use Rattle.yuv_words.proofs.values.RawVideoOptionValue.spelled.Goals as goal
