@@ -62,11 +62,12 @@ where
     let mut one = begin(system, first, &mut file, options.raw)?;
     let mut other_file = open_file(rt, second, Place::Second, &mut system.input)?;
     let mut other = begin(system, second, &mut other_file, options.raw_second)?;
-    let mut output = Output::open(rt, &target, &mut system.output, system.progress.out())?;
     frames_before(options.frame)?;
     write_formats(system.progress.out(), one.header(), other.header());
     check_formats(&one, &other)?;
     warn_of_headers(system.progress.out(), options, one.header(), other.header());
+    // Every test comes first, so that no partial file is left if a test fails.
+    let mut output = Output::open(rt, &target, &mut system.output, system.progress.out())?;
     let mut above = Above::new();
     let drawn = write_difference(
         rt.alloc(),

@@ -16,7 +16,7 @@ pub fn fill<T: Pixel>(rows: &Rows, buffer: &mut [T], pixel: T) -> u32 {
     OK
 }
 
-/// Copies the picture of the source rows to the rows of the buffer, which have its size.
+/// Copies the picture of the source rows to the rows of the buffer, which must have the same size.
 pub fn copy<T: Pixel>(rows: &Rows, buffer: &mut [T], source_rows: &Rows, source: &[T]) -> u32 {
     if !rows.fit(buffer.len()) {
         return FIRST;
@@ -31,7 +31,8 @@ pub fn copy<T: Pixel>(rows: &Rows, buffer: &mut [T], source_rows: &Rows, source:
     OK
 }
 
-/// Writes the picture of the source rows in half its size. The source is exactly twice as wide and as high as the target.
+/// Writes the picture of the source rows at half its size. The source must be exactly twice as wide and twice as high as the
+/// target.
 pub fn downscale<T: Pixel>(rows: &Rows, buffer: &mut [T], source_rows: &Rows, source: &[T]) -> u32 {
     if !rows.fit(buffer.len()) {
         return FIRST;
@@ -46,7 +47,8 @@ pub fn downscale<T: Pixel>(rows: &Rows, buffer: &mut [T], source_rows: &Rows, so
     OK
 }
 
-/// Decodes rows of little-endian bytes to rows of pixels of two bytes. The rows of the source count bytes.
+/// Decodes rows of little-endian bytes to rows of pixels of two bytes. The width and the stride of the source rows are counted in
+/// bytes.
 pub fn decode(rows: &Rows, buffer: &mut [u16], source_rows: &Rows, source: &[u8]) -> u32 {
     if !rows.fit(buffer.len()) {
         return FIRST;
@@ -61,7 +63,8 @@ pub fn decode(rows: &Rows, buffer: &mut [u16], source_rows: &Rows, source: &[u8]
     OK
 }
 
-/// Encodes rows of pixels of two bytes as rows of little-endian bytes. The rows of the buffer count bytes.
+/// Encodes rows of pixels of two bytes as rows of little-endian bytes. The width and the stride of the buffer's rows are counted
+/// in bytes.
 pub fn encode(rows: &Rows, buffer: &mut [u8], source_rows: &Rows, source: &[u16]) -> u32 {
     if !rows.fit(buffer.len()) {
         return FIRST;
@@ -76,7 +79,8 @@ pub fn encode(rows: &Rows, buffer: &mut [u8], source_rows: &Rows, source: &[u16]
     OK
 }
 
-/// Sets each entry of the border to the nearest pixel. The picture inside of it and all entries after it are unchanged.
+/// Sets each entry of the border to the nearest pixel. The picture inside the border and all entries after the border are
+/// unchanged.
 pub fn pad<T: Pixel>(layout: &Bordered, buffer: &mut [T]) -> u32 {
     let Some((geometry, size)) = layout.of(buffer.len()) else {
         return FIRST;

@@ -6,7 +6,7 @@ use crate::generated::v_frame_slices::status::{FIRST, OK, SECOND, SIZES};
 use v_frame_proved::pixel::Pixel;
 use v_frame_proved::ops::rows;
 
-/// Sums the squares of the differences of two pictures of one size.
+/// Adds up the squares of the differences of two pictures of the same size.
 pub fn squared_errors<T: Pixel>(
     a_rows: &Rows,
     a: &[T],
@@ -27,7 +27,7 @@ pub fn squared_errors<T: Pixel>(
     OK
 }
 
-/// Sums the absolute differences of two pictures of one size.
+/// Adds up the absolute differences of two pictures of the same size.
 pub fn absolute_differences<T: Pixel>(
     a_rows: &Rows,
     a: &[T],
@@ -48,7 +48,7 @@ pub fn absolute_differences<T: Pixel>(
     OK
 }
 
-/// Finds the first pixel, row after row from the top, that differs in two pictures of one size.
+/// Finds the first pixel, in the order of rows from the top, at which two pictures of the same size differ.
 pub fn first_difference<T: Pixel>(
     a_rows: &Rows,
     a: &[T],

@@ -7,7 +7,7 @@ use crate::generated::v_frame_slices::status::{FIRST, NUMBER, OK, SECOND, SIZES,
 use v_frame_proved::pixel::Pixel;
 use v_frame_proved::measures::rows as measures;
 
-/// The greatest difference of two pictures, and the first place that has it.
+/// The greatest difference of two pictures, and the first place where it occurs.
 #[repr(C)]
 pub struct Greatest {
     pub x: usize,
@@ -15,7 +15,7 @@ pub struct Greatest {
     pub difference: u32,
 }
 
-/// Measures the mean squared error of two pictures of one size.
+/// Measures the mean squared error of two pictures of the same size.
 pub fn mean_squared_error<T: Pixel>(
     a_rows: &Rows,
     a: &[T],
@@ -36,7 +36,7 @@ pub fn mean_squared_error<T: Pixel>(
     OK
 }
 
-/// Measures the structural similarity of two pictures of one size whose samples have a bit depth.
+/// Measures the structural similarity of two pictures of the same size, whose samples have the given bit depth.
 pub fn ssim<T: Pixel>(
     a_rows: &Rows,
     a: &[T],
@@ -64,7 +64,7 @@ pub fn ssim<T: Pixel>(
     OK
 }
 
-/// Finds the greatest difference of the values of two pictures of one size, and the first place that has it.
+/// Finds the greatest difference of the values of two pictures of the same size, and the first place where it occurs.
 pub fn greatest_difference<T: Pixel>(
     a_rows: &Rows,
     a: &[T],
@@ -90,7 +90,7 @@ pub fn greatest_difference<T: Pixel>(
     OK
 }
 
-/// Counts the places at which the values of two pictures of one size differ by more than a threshold.
+/// Counts the pixels whose values in two pictures of the same size differ by more than a threshold.
 pub fn count_above<T: Pixel>(
     a_rows: &Rows,
     a: &[T],

@@ -8,6 +8,7 @@ use crate::generated::v_frame_y4m_c::status::{
     NO_FRAME, OK, OUT_OF_MEMORY, SHORT_BUFFER, SIZE_TOO_LARGE, letter_of, status_of,
     status_of_extensions, status_of_line, status_of_numbers,
 };
+use v_frame_proved::sequence::Sequence;
 use v_frame_proved::y4m::{
     StreamHeader, header_line_with_newline, is_frame_line, is_lax_frame_line, parse_lax_header,
 };
@@ -187,15 +188,7 @@ pub unsafe extern "C" fn v_frame_y4m_write_header(
         Ok(extensions) => extensions,
         Err(fault) => return status_of_extensions(&fault),
     };
-    let found = StreamHeader {
-        width: numbers.width,
-        height: numbers.height,
-        frame_rate: numbers.frame_rate,
-        interlacing: numbers.interlacing,
-        pixel_aspect: numbers.pixel_aspect,
-        color: numbers.color,
-        extensions,
-    };
+    let found = with_extensions(&numbers, extensions);
     let Ok(line) = header_line_with_newline(&found) else {
         return OUT_OF_MEMORY;
     };
@@ -205,6 +198,19 @@ pub unsafe extern "C" fn v_frame_y4m_write_header(
     }
     buffer[..line.len()].copy_from_slice(line.as_slice());
     OK
+}
+
+/// Returns a header with the numbers of a header and these extensions.
+fn with_extensions(numbers: &StreamHeader, extensions: Sequence<Sequence<u8>>) -> StreamHeader {
+    StreamHeader {
+        width: numbers.width,
+        height: numbers.height,
+        frame_rate: numbers.frame_rate,
+        interlacing: numbers.interlacing,
+        pixel_aspect: numbers.pixel_aspect,
+        color: numbers.color,
+        extensions,
+    }
 }
 
 /// Counts the bytes of a frame of a stream after its line: the planes Y, U and V.

@@ -91,24 +91,38 @@ fn range_text(range: u32) -> &'static [u8] {
     }
 }
 
-/// Returns the extensions that a text states: those of the header line that the text ends.
+/// Returns the extensions that a text states: the extensions of the header line that ends in the text.
 fn said(text: &[u8]) -> Result<Sequence<Sequence<u8>>, ExtensionFault> {
-    let mut line = Vec::new();
-    if line.try_extend_from_slice(b"YUV4MPEG2 W1 H1").is_err()
-        || line.try_extend_from_slice(text).is_err()
-    {
-        return Err(ExtensionFault::OutOfMemory);
+    let found = header_ended_by(text)?;
+    if is_bare(&found) {
+        Ok(found.extensions)
+    } else {
+        Err(ExtensionFault::NotExtensions)
     }
+}
+
+/// Parses the shortest header line that ends in a text.
+fn header_ended_by(text: &[u8]) -> Result<StreamHeader, ExtensionFault> {
+    let line = line_ended_by(text).map_err(|_| ExtensionFault::OutOfMemory)?;
     match parse_header(line.as_slice()) {
-        Ok(found) => {
-            if is_bare(&found) {
-                Ok(found.extensions)
-            } else {
-                Err(ExtensionFault::NotExtensions)
-            }
-        }
-        Err(HeaderError::OutOfMemory) => Err(ExtensionFault::OutOfMemory),
-        Err(_) => Err(ExtensionFault::NotExtensions),
+        Ok(found) => Ok(found),
+        Err(error) => Err(fault_of(error)),
+    }
+}
+
+/// Returns the shortest header line that ends in a text.
+fn line_ended_by(text: &[u8]) -> Result<Vec<u8>, AllocError> {
+    let mut line = Vec::new();
+    line.try_extend_from_slice(b"YUV4MPEG2 W1 H1")?;
+    line.try_extend_from_slice(text)?;
+    Ok(line)
+}
+
+/// Returns why a text states no extensions, if the header line that ends in the text is rejected for this reason.
+fn fault_of(error: HeaderError) -> ExtensionFault {
+    match error {
+        HeaderError::OutOfMemory => ExtensionFault::OutOfMemory,
+        _ => ExtensionFault::NotExtensions,
     }
 }
 

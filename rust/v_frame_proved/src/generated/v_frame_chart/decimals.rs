@@ -14,7 +14,7 @@ pub(crate) fn push_label(text: &mut String, number: i64, power: Power) -> Result
     Ok(())
 }
 
-/// Appends a minus.
+/// Appends a minus sign if `negative` is true.
 #[inline]
 fn push_sign(text: &mut String, negative: bool) -> Result<(), AllocError> {
     if negative { text.try_push_str("-") } else { Ok(()) }
@@ -57,7 +57,7 @@ fn push_multiplied(text: &mut String, size: u64, p: u32) -> Result<(), AllocErro
     write!(text, "{whole}")
 }
 
-/// Appends a size over a small power of ten.
+/// Appends a size divided by a small power of ten.
 #[inline]
 fn push_divided(text: &mut String, size: u64, p: u32) -> Result<(), AllocError> {
     let whole = size / tens(p);
@@ -66,7 +66,7 @@ fn push_divided(text: &mut String, size: u64, p: u32) -> Result<(), AllocError> 
     Ok(())
 }
 
-/// Appends the last digits of a number.
+/// Appends the last `count` digits of a number.
 #[inline]
 fn push_last_digits(text: &mut String, number: u64, count: u32) -> Result<(), AllocError> {
     for k in 0..count {

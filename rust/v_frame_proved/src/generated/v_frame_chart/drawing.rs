@@ -115,13 +115,13 @@ fn push_band_note(text: &mut String, series: &[Series<'_>]) -> Result<(), AllocE
     push_note_if(text, COLUMNS < frames_of(series), BAND_PLACE, BAND_NOTE)
 }
 
-/// Where the note on the marks at the top is.
+/// The attributes of the note on the marks at the top.
 const ENDLESS_PLACE: &str = "x=\"924\" y=\"16\" text-anchor=\"end\"";
 
 /// The note on the marks at the top.
 const ENDLESS_NOTE: &str = "marks at the top: infinite, as of identical frames";
 
-/// Where the note on the bands is.
+/// The attributes of the note on the bands.
 const BAND_PLACE: &str = "x=\"924\" y=\"33\" text-anchor=\"end\"";
 
 /// The note on the bands.
@@ -147,13 +147,13 @@ fn has_endless_series(series: &[Series<'_>]) -> bool {
     found
 }
 
-/// Returns how many frames the axis has behind the first: one at least.
+/// Returns the number of frames on the axis after the first one, or 1 if there are fewer.
 #[inline]
 fn span_of(series: &[Series<'_>]) -> u64 {
     frames_of(series).saturating_sub(1).max(1) as u64
 }
 
-/// Returns how many frames the longest series has.
+/// Returns the number of frames of the longest series.
 #[inline]
 fn frames_of(series: &[Series<'_>]) -> usize {
     let mut frames = 0;

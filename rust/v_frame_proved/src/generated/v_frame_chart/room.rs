@@ -78,7 +78,7 @@ fn minus_infinity() -> f64 {
     f64::NEG_INFINITY
 }
 
-/// Returns whether the ends of a scale rise, and two numbers lie between them.
+/// Returns whether the second end of a scale is greater than the first, and two numbers lie between its ends.
 #[inline]
 fn is_between(scale: &Scale, low: f64, high: f64) -> bool {
     let (bottom, top) = (scale.value(0), scale.value(scale.count));

@@ -55,7 +55,11 @@ fn push_frame_word(text: &mut String) -> Result<(), AllocError> {
     push_text(text, "x=\"500\" y=\"194\" text-anchor=\"middle\"", "frame")
 }
 
-/// Appends a text of SVG with these attributes. The words are escaped, the attributes are not.
+/// Appends an SVG text element with these attributes. The text `words` is escaped, the attributes are not.
+///
+/// # Errors
+///
+/// Returns [`AllocError`] if there is not enough memory.
 #[inline]
 pub fn push_text(text: &mut String, attributes: &str, words: &str) -> Result<(), AllocError> {
     push_text_head(text, attributes)?;

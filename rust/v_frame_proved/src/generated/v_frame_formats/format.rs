@@ -131,7 +131,8 @@ impl VideoFormat {
         }
     }
 
-    /// Returns the short name: for planar formats the one that YUV4MPEG2 uses, as `420p10`; else `nv12`, `p010` and the like.
+    /// Returns the short name: for planar formats the one that YUV4MPEG2 uses, as `420p10`; for others a name as `nv12` or
+    /// `p010`.
     ///
     /// # Examples
     ///
@@ -149,7 +150,8 @@ impl VideoFormat {
         }
     }
 
-    /// Returns the name of ffmpeg's pixel format, as `yuv420p10le`; or the short name if ffmpeg has no name for this format alone.
+    /// Returns the name of ffmpeg's pixel format, as `yuv420p10le`, or the short name if no pixel format of ffmpeg has exactly
+    /// this meaning.
     ///
     /// # Examples
     ///
@@ -168,8 +170,8 @@ impl VideoFormat {
         }
     }
 
-    /// Returns the name that people type: `I420`, `I422`, `I444`, `gray8`, or the one that ffmpeg has without its `le`. For other
-    /// formats, returns the short name. In lower case.
+    /// Returns the name that people usually type, in lower case: `i420`, `i422`, `i444`, `gray8`, or the name of ffmpeg without
+    /// its `le`. For other formats, returns the short name.
     #[inline]
     #[must_use]
     pub fn common_name(self) -> &'static str {
@@ -238,7 +240,7 @@ impl VideoFormat {
     }
 }
 
-/// Returns whether two names differ in nothing but the case of their letters.
+/// Returns whether two names are equal, except for the case of letters.
 #[inline]
 fn is_same_name(name: &str, other: &str) -> bool {
     name.eq_ignore_ascii_case(other)
@@ -320,7 +322,7 @@ fn color_name_in_ffmpeg(color: Color) -> &'static str {
     }
 }
 
-/// Returns the name that people type for planes of a color, in lower case.
+/// Returns the name that people usually type for planes of a color, in lower case.
 fn common_color_name(color: Color) -> &'static str {
     match color {
         Color::Yuv420Jpeg => "i420",

@@ -17,7 +17,7 @@
 /// ```
 #[derive(Debug, Clone, Copy, PartialEq, Eq, Hash)]
 pub struct PlaneSums {
-    /// The number of luma.
+    /// The number of the luma plane.
     pub y: u128,
     /// The number of the first chroma plane, if there is one.
     pub u: Option<u128>,
@@ -26,7 +26,7 @@ pub struct PlaneSums {
 }
 
 impl PlaneSums {
-    /// Returns the sum of each plane. A chroma plane has one if both have the plane. Sums saturate at `u128::MAX`.
+    /// Returns the sum for each plane. A chroma plane has a sum if both numbers exist. Sums saturate at `u128::MAX`.
     ///
     /// # Examples
     ///
@@ -46,7 +46,7 @@ impl PlaneSums {
         }
     }
 
-    /// Returns each number multiplied by a factor. Products saturate at `u128::MAX`.
+    /// Returns each number multiplied by `count`. Products saturate at `u128::MAX`.
     #[inline]
     #[must_use]
     pub fn times(&self, count: u64) -> Self {

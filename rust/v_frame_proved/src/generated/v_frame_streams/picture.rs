@@ -111,6 +111,9 @@ impl<T: Pixel> Picture<T> {
 
     /// Returns the bytes of the frame that was read last, in the order in which the stream has them.
     ///
+    /// After a call of [`read`](Self::read) or [`read_nth`](Self::read_nth) that returned `false` or an error, the slice still has
+    /// the length of a frame, but its contents are unspecified: part of it may have been overwritten.
+    ///
     /// # Examples
     ///
     /// ```
@@ -154,15 +157,16 @@ impl<T: Pixel> Picture<T> {
             && has_sizes(&self.frame, source.header())
     }
 
-    /// Reads the next frame of `source` into `frame`. Returns `false` if `source` is at its end.
+    /// Reads the next frame of `source` into `frame`. Returns `false` if `source` is at its end. `frame` is then unchanged. The
+    /// padding of `frame` is never changed.
     ///
     /// The picture must match the frames of `source`, which [`is_made_for`](Self::is_made_for) tests. It does if it was made
     /// for `source`, or for a stream with the same size and color.
     ///
     /// # Errors
     ///
-    /// [`Problem::Stream`] if the frame cannot be read whole. Do not read from `source` after an error: the bytes of the
-    /// incomplete frame are lost.
+    /// [`Problem::Stream`] if the frame cannot be read whole. `frame` is then unchanged. Do not read from `source` after an error:
+    /// the bytes of the incomplete frame are lost.
     ///
     /// # Panics
     ///
@@ -200,14 +204,15 @@ impl<T: Pixel> Picture<T> {
     }
 
     /// Skips `before` frames of `source` and reads the next frame into `frame`, like `Iterator::nth`. Returns `false` if
-    /// `source` has no frame after the skipped ones. It is then at its end.
+    /// `source` has no frame after the skipped ones. It is then at its end, and `frame` is unchanged. The padding of `frame` is
+    /// never changed.
     ///
     /// The picture must match the frames of `source`, as for [`read`](Self::read).
     ///
     /// # Errors
     ///
-    /// [`Problem::Stream`] if a frame cannot be read whole. Do not read from `source` after an error: the bytes of the
-    /// incomplete frame are lost.
+    /// [`Problem::Stream`] if a frame cannot be read whole. `frame` is then unchanged. Do not read from `source` after an error:
+    /// the bytes of the incomplete frame are lost.
     ///
     /// # Panics
     ///

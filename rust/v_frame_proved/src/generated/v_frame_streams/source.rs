@@ -48,7 +48,7 @@ pub struct Source<R> {
 }
 
 impl<R: io::Read> Source<R> {
-    /// Opens a YUV4MPEG2 stream: reads the header line, strict or lax, and leaves the frames to be read.
+    /// Opens a YUV4MPEG2 stream: reads the header line, strict or lax, and leaves the frames to be read. The frames are planar.
     ///
     /// Errors of this stream report `place` as the stream in which they happened. The reader is buffered, so more bytes than
     /// the header line may be read from it.

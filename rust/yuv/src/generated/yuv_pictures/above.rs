@@ -22,12 +22,12 @@ pub fn has_sample_above<T: Pixel>(frame: &Frame<T>) -> bool {
         || chroma_exceeds(&frame.v_plane, most)
 }
 
-/// Returns whether a sample of a plane is above a value.
+/// Returns whether a sample of a plane is above `most`.
 fn plane_exceeds<T: Pixel>(plane: &Plane<T>, most: u16) -> bool {
     maximum(&plane.as_plane_ref()).pixel_into_u16() > most
 }
 
-/// Returns whether a sample of a chroma plane is above a value. `false` if there is no plane.
+/// Returns whether a sample of a chroma plane is above `most`. Returns `false` if there is no plane.
 fn chroma_exceeds<T: Pixel>(plane: &Option<Plane<T>>, most: u16) -> bool {
     match plane {
         Some(plane) => plane_exceeds(plane, most),

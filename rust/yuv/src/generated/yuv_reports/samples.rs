@@ -34,7 +34,6 @@ pub fn push_statistics(
     text: &mut String,
     found: &SampleStatistics,
 ) -> Result<(), AllocError> {
-    // A text of its own, since nothing is known of one that a float was written to.
     let mean = found.mean;
     let mean = try_format(format_args!("{mean:.2}"))?;
     push_extremes(text, found)?;
@@ -128,7 +127,7 @@ fn push_chroma(text: &mut String, sums: Option<(u32, u32)>) -> Result<(), AllocE
     }
 }
 
-/// The powers of 16 that the eight hexadecimal digits of 32 bits stand for, the first digit first.
+/// The place values of the eight hexadecimal digits of a number of 32 bits, from the first digit to the last.
 const PLACES: [u32; 8] = [
     0x1000_0000,
     0x100_0000,

@@ -7,8 +7,8 @@ use v_frame_proved::streams::Source;
 use crate::generated::yuv_files::{shown_name, write_message};
 use crate::generated::yuv_pictures::greatest_value;
 
-/// Writes a message that the frame of this number of a stream has samples above the greatest value of its bit depth, if there is such
-/// a frame.
+/// Writes a message if a frame of the stream has samples above the greatest value of its bit depth. The message has the number of
+/// the frame.
 pub fn write_above<R: io::Read, E: io::Write>(
     messages: &mut E,
     name: &str,

@@ -8,7 +8,7 @@ pub enum Status {
     Same,
     /// The command found a difference.
     Different,
-    /// The command failed.
+    /// The reader of the output closed it. Shells report this status for a program that the signal PIPE ends.
     Failed,
     /// The reader of the output closed it. The status is that of a program that the signal PIPE ends, as shells report it.
     Closed,

@@ -69,7 +69,7 @@ const COMMANDS: [CommandName; 8] = [
 ];
 
 impl OptionName {
-    /// Returns the word of the option with its dashes, a description of its value if it takes one, and its help.
+    /// Returns the text of the option with its dashes, a description of its value if it takes one, and its help.
     fn row(self) -> (&'static str, Option<&'static str>, &'static str) {
         match self {
             Header => ("--header", None, HEADER),
@@ -119,7 +119,7 @@ impl OptionName {
         }
     }
 
-    /// Returns the word of the option with its dashes.
+    /// Returns the text of the option with its dashes, as `--csv`.
     pub fn text(self) -> &'static str {
         self.row().0
     }
@@ -129,7 +129,7 @@ impl OptionName {
         self.row().1.unwrap_or("")
     }
 
-    /// Returns the help of the option: one or more lines, the first of which begins with its word.
+    /// Returns the help of the option: one or more lines, of which the first begins with the option.
     pub fn help(self) -> &'static str {
         self.row().2
     }
@@ -144,7 +144,7 @@ impl OptionName {
         self as usize
     }
 
-    /// Returns the option with this word, or `None` if there is none.
+    /// Returns the option with this text, or `None` if there is none.
     pub(crate) fn named(word: &str) -> Option<Self> {
         for option in OPTIONS {
             if option.is_written(word) {
@@ -154,14 +154,14 @@ impl OptionName {
         None
     }
 
-    /// Returns whether this is the word of the option.
+    /// Returns whether `word` is the text of the option.
     fn is_written(self, word: &str) -> bool {
         word == self.text()
     }
 }
 
 impl CommandName {
-    /// Returns the word of the command.
+    /// Returns the name of the command, as `compare`.
     pub fn text(self) -> &'static str {
         match self {
             CommandName::Info => "info",
@@ -175,7 +175,7 @@ impl CommandName {
         }
     }
 
-    /// Returns the command with this word, or `None` if there is none.
+    /// Returns the command with this name, or `None` if there is none.
     pub(crate) fn named(word: &str) -> Option<Self> {
         for command in COMMANDS {
             if command.is_written(word) {
@@ -185,7 +185,7 @@ impl CommandName {
         None
     }
 
-    /// Returns whether this is the word of the command.
+    /// Returns whether `word` is the name of the command.
     fn is_written(self, word: &str) -> bool {
         word == self.text()
     }

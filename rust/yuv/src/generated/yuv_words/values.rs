@@ -6,9 +6,9 @@ use v_frame_proved::formats::{Component, Rectangle, VideoFormat};
 use v_frame_proved::rgb::{ColorRange, Standard};
 use v_frame_proved::y4m::Ratio;
 
-/// A type of values that an option takes.
+/// A type of option values.
 pub(crate) trait OptionValue: Copy {
-    /// Returns the value that a text spells.
+    /// Returns the value that a text spells, or `None` if it spells none.
     fn spelled(text: &str) -> Option<Self>;
 }
 
@@ -18,7 +18,7 @@ impl OptionValue for u64 {
     }
 }
 
-/// Returns the number that a text spells: decimal digits without a sign and without leading zeros.
+/// Returns the number that a text spells, or `None` if it spells none: decimal digits without a sign and without leading zeros.
 pub(crate) fn number(text: &str) -> Option<u64> {
     if !has_canonical_start(text.as_bytes()) {
         return None;
@@ -29,7 +29,7 @@ pub(crate) fn number(text: &str) -> Option<u64> {
     }
 }
 
-/// Returns whether digits begin without a plus sign, and without a leading zero.
+/// Returns whether digits begin without a plus sign and without a leading zero.
 fn has_canonical_start(digits: &[u8]) -> bool {
     match digits.first() {
         Some(b'+') => false,
@@ -48,8 +48,8 @@ impl OptionValue for u16 {
     }
 }
 
-/// Cuts a text at the first `mark`. Returns the number before it and the text after it, or `None` if there is no mark or no number
-/// before it.
+/// Splits a text at the first `mark`. Returns the number before it and the text after it, or `None` if there is no mark or no
+/// number before it.
 pub(crate) fn number_before(text: &str, mark: char) -> Option<(u64, &str)> {
     match text.split_once(mark) {
         Some((digits, rest)) => match number(digits) {
@@ -79,7 +79,7 @@ impl OptionValue for Ratio {
     }
 }
 
-/// Returns the ratio of two numbers above 0 that have this mark between them.
+/// Returns the ratio of two numbers above 0 that are separated by `mark`, or `None` if the text is no such ratio.
 fn ratio_with(text: &str, mark: char) -> Option<Ratio> {
     let (numerator, rest) = number_before(text, mark)?;
     let denominator = number(rest)?;
@@ -107,7 +107,7 @@ fn lacks_pixels(width: usize, height: usize) -> bool {
     width == 0 || height == 0
 }
 
-/// Returns the rectangle that four numbers with commas between them spell.
+/// Returns the rectangle that a text spells as four numbers separated by commas, or `None` if it spells none.
 fn rectangle(text: &str) -> Option<Rectangle> {
     let (x, rest) = number_before(text, ',')?;
     let (y, rest) = number_before(rest, ',')?;
@@ -131,7 +131,7 @@ impl OptionValue for RawVideo {
     }
 }
 
-/// Returns the headerless video that a text spells, whose size may be 0.
+/// Returns the headerless video that a text describes, or `None` if it describes none. Its size may be 0.
 fn raw_video(text: &str) -> Option<RawVideo> {
     let (width, rest) = number_before(text, 'x')?;
     let (height, rest) = number_before(rest, ':')?;
@@ -145,7 +145,8 @@ fn raw_video(text: &str) -> Option<RawVideo> {
     })
 }
 
-/// Returns the format, whether its samples have full range, and the rate after an at sign, if there is one.
+/// Returns the format, whether its samples have full range, and the rate after an at sign, if there is one. Returns `None` if a
+/// part is wrong.
 fn format_and_rate(text: &str) -> Option<(VideoFormat, bool, Option<Ratio>)> {
     match text.split_once('@') {
         Some((name, rate)) => {
@@ -160,7 +161,7 @@ fn format_and_rate(text: &str) -> Option<(VideoFormat, bool, Option<Ratio>)> {
     }
 }
 
-/// Returns the format of a name, and whether its samples have full range.
+/// Returns the format with this name, and whether its samples have full range, or `None` if no format has the name.
 pub(crate) fn raw_format(name: &str) -> Option<(VideoFormat, bool)> {
     if let Some(format) = VideoFormat::named(name) {
         return Some((format, false));
