@@ -124,15 +124,6 @@ impl VideoFormat {
 
     /// Returns the format that has this name: the short one, the one of ffmpeg or the common one, in upper or lower case. Returns
     /// `None` if no format has it.
-    ///
-    /// ```
-    /// use v_frame_proved::formats::VideoFormat;
-    ///
-    /// let format = VideoFormat::named("yuv420p10").expect("a format");
-    /// assert_eq!(format.ffmpeg_name(), "yuv420p10le");
-    /// assert_eq!(VideoFormat::named("I420"), VideoFormat::named("yuv420p"));
-    /// assert_eq!(VideoFormat::named("yuv421p"), None);
-    /// ```
     pub fn named(name: &str) -> Option<Self>
         ensures some { IfSome result (λ format. IsFormat format name.now) }
         ensures none { IfNone result ((format : TheFormat) → ¬ (IsFormat format name.now)) }

@@ -60,6 +60,17 @@ fn push_frame_word(text: &mut String) -> Result<(), AllocError> {
 /// # Errors
 ///
 /// Returns [`AllocError`] if there is not enough memory.
+///
+/// # Examples
+///
+/// ```
+/// use v_frame_proved::chart::push_text;
+///
+/// let mut svg = String::new();
+/// push_text(&mut svg, "x=\"4\" y=\"9\"", "a < b")?;
+/// assert_eq!(svg, "<text x=\"4\" y=\"9\">a &lt; b</text>\n");
+/// # Ok::<(), Box<dyn std::error::Error>>(())
+/// ```
 #[inline]
 pub fn push_text(text: &mut String, attributes: &str, words: &str) -> Result<(), AllocError> {
     push_text_head(text, attributes)?;

@@ -172,6 +172,16 @@ impl VideoFormat {
 
     /// Returns the name that people usually type, in lower case: `i420`, `i422`, `i444`, `gray8`, or the name of ffmpeg without
     /// its `le`. For other formats, returns the short name.
+    ///
+    /// # Examples
+    ///
+    /// ```
+    /// use v_frame_proved::formats::VideoFormat;
+    ///
+    /// let format = VideoFormat::named("yuv420p10le").unwrap();
+    /// assert_eq!(format.common_name(), "yuv420p10");
+    /// assert_eq!(VideoFormat::named("I420").unwrap().common_name(), "i420");
+    /// ```
     #[inline]
     #[must_use]
     pub fn common_name(self) -> &'static str {
@@ -183,15 +193,6 @@ impl VideoFormat {
 
     /// Returns the format that has this name: the short one, the one of ffmpeg or the common one, in upper or lower case. Returns
     /// `None` if no format has it.
-    ///
-    /// ```
-    /// use v_frame_proved::formats::VideoFormat;
-    ///
-    /// let format = VideoFormat::named("yuv420p10").expect("a format");
-    /// assert_eq!(format.ffmpeg_name(), "yuv420p10le");
-    /// assert_eq!(VideoFormat::named("I420"), VideoFormat::named("yuv420p"));
-    /// assert_eq!(VideoFormat::named("yuv421p"), None);
-    /// ```
     ///
     /// # Examples
     ///
@@ -216,6 +217,16 @@ impl VideoFormat {
 
     /// Returns the format whose samples have full range if they have this name: one of ffmpeg's `yuvj420p`, `yuvj422p` and
     /// `yuvj444p`, in upper or lower case. Returns `None` for other names.
+    ///
+    /// # Examples
+    ///
+    /// ```
+    /// use v_frame_proved::formats::VideoFormat;
+    ///
+    /// let format = VideoFormat::full_range_named("yuvj422p").unwrap();
+    /// assert_eq!(format.ffmpeg_name(), "yuv422p");
+    /// assert_eq!(VideoFormat::full_range_named("yuv422p"), None);
+    /// ```
     #[inline]
     #[must_use]
     pub fn full_range_named(name: &str) -> Option<Self> {
