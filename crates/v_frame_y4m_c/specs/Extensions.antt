@@ -35,19 +35,19 @@ range_text number =
     if number == 1 then codes " XCOLORRANGE=LIMITED"
     else if number == 2 then codes " XCOLORRANGE=FULL" else []
 
--- the header states a picture of one pixel, extensions, and nothing else
+-- the header states a picture of 30 by 30 pixels, extensions, and nothing else
 pub record IsBare (h : StreamHeader) : Type 0 where
-  pub width : h.width ≡ 1
-  pub height : h.height ≡ 1
+  pub width : h.width ≡ 30
+  pub height : h.height ≡ 30
   pub frame_rate : h.frame_rate ≡ None
   pub interlacing : h.interlacing ≡ None
   pub pixel_aspect : h.pixel_aspect ≡ None
   pub color : h.color ≡ Unstated
   pub writable : IsWritable h
 
--- the shortest header line with a text at its end
+-- a short header line with a text at its end
 abbrev pub ended_by : List ℕ → List ℕ
-ended_by text = codes "YUV4MPEG2 W1 H1" ++ text
+ended_by text = codes "YUV4MPEG2 W30 H30" ++ text
 
 -- a header line that ends in the text states these extensions there, and nothing else
 abbrev pub SaysExtensions : List ℕ → List (List ℕ) → Type 0

@@ -124,7 +124,7 @@ fn said(alloc: Global, text: &[u8]) -> Result<Sequence<Sequence<u8>>, ExtensionF
     }
 }
 
-/// Parses the shortest header line that ends in a text.
+/// Parses a short header line that ends in a text.
 fn header_ended_by(alloc: Global, text: &[u8]) -> Result<StreamHeader, ExtensionFault>
     ensures found { IfOk result (IsHeader (ended_by text.now)) }
     ensures refused { IfErr result (AreRefused text.now) }
@@ -136,12 +136,12 @@ fn header_ended_by(alloc: Global, text: &[u8]) -> Result<StreamHeader, Extension
     }
 }
 
-/// Returns the shortest header line that ends in a text.
+/// Returns a short header line that ends in a text.
 fn line_ended_by(alloc: Global, text: &[u8]) -> Result<Vec<u8>, AllocError>
     ensures { IfOk result (λ line. line.items ≡ ended_by text.now) }
 {
     let mut line = Vec::new(alloc);
-    line.extend_from_slice(b"YUV4MPEG2 W1 H1")?;
+    line.extend_from_slice(b"YUV4MPEG2 W30 H30")?;
     line.extend_from_slice(text)?;
     Ok(line)
 }
@@ -157,12 +157,12 @@ fn fault_of(error: HeaderError) -> ExtensionFault
     }
 }
 
-/// Returns whether a header states a picture of one pixel, extensions, and nothing else.
+/// Returns whether a header states a picture of 30 by 30 pixels, extensions, and nothing else.
 fn is_bare(header: &StreamHeader) -> bool
     ensures { IsTrue result ↔ IsBare header.now }
 {
-    header.width == 1
-        && header.height == 1
+    header.width == 30
+        && header.height == 30
         && header.frame_rate.is_none()
         && header.interlacing.is_none()
         && header.pixel_aspect.is_none()

@@ -101,7 +101,7 @@ fn said(text: &[u8]) -> Result<Sequence<Sequence<u8>>, ExtensionFault> {
     }
 }
 
-/// Parses the shortest header line that ends in a text.
+/// Parses a short header line that ends in a text.
 fn header_ended_by(text: &[u8]) -> Result<StreamHeader, ExtensionFault> {
     let line = line_ended_by(text).map_err(|_| ExtensionFault::OutOfMemory)?;
     match parse_header(line.as_slice()) {
@@ -110,10 +110,10 @@ fn header_ended_by(text: &[u8]) -> Result<StreamHeader, ExtensionFault> {
     }
 }
 
-/// Returns the shortest header line that ends in a text.
+/// Returns a short header line that ends in a text.
 fn line_ended_by(text: &[u8]) -> Result<Vec<u8>, AllocError> {
     let mut line = Vec::new();
-    line.try_extend_from_slice(b"YUV4MPEG2 W1 H1")?;
+    line.try_extend_from_slice(b"YUV4MPEG2 W30 H30")?;
     line.try_extend_from_slice(text)?;
     Ok(line)
 }
@@ -126,10 +126,10 @@ fn fault_of(error: HeaderError) -> ExtensionFault {
     }
 }
 
-/// Returns whether a header states a picture of one pixel, extensions, and nothing else.
+/// Returns whether a header states a picture of 30 by 30 pixels, extensions, and nothing else.
 fn is_bare(header: &StreamHeader) -> bool {
-    header.width == 1
-        && header.height == 1
+    header.width == 30
+        && header.height == 30
         && header.frame_rate.is_none()
         && header.interlacing.is_none()
         && header.pixel_aspect.is_none()
