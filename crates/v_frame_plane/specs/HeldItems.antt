@@ -1,6 +1,6 @@
--- Rows and pixels that a caller holds: they are drawn from either end in any order, and written in
--- any order, before or after the iterator is dropped. The table of the plane is then what its items
--- hold last, each at its place.
+-- Rows and pixels that a caller holds. They are drawn from either end in any order, and written in
+-- any order, before or after the iterator is dropped. When the borrow ends, the table of the plane
+-- consists of the final values of the items, each at its place.
 use Rattle.std.specs.Prelude.{◌≡◌, List, [], ◌∷◌, ◌++◌, length, map, Option, Some, None}
 use Rattle.std.specs.Iterator.{YieldsFirstMut, YieldsLastMut}
 use Rattle.std.specs.Borrow.{Fml, GName, RattleType, MutBor}
@@ -18,8 +18,8 @@ use Rattle.v_frame_plane.specs.declared.pixels_mut.PixelsMut.{PixelsMut}
 pub data End : Type 0 where
   at_front at_back : End
 
--- one call of `next` or `next_back`: the end, the item if there was one, the iterator after the
--- call, and what the item holds when the borrow ends
+-- One call of `next` or `next_back`: the end from which it draws, its item if there was one, the
+-- iterator after the call, and the final value of the item.
 pub record HeldDraw (Walk Item : Type 0) : Type 0 where
   pub end : End
   pub item : Option (MutBor Item)
@@ -27,29 +27,30 @@ pub record HeldDraw (Walk Item : Type 0) : Type 0 where
   pub final : Item
 
 module _ {Item : Type 0} where
-  -- what an item holds last, at the end from which it was drawn, beside what the others hold
+  -- The final values of the other items, with the final value of one more item at the end from
+  -- which that item was drawn.
   abbrev pub put_at : End → Option (MutBor Item) → Item → List Item → List Item
   put_at end None final others = others
   put_at at_front (Some item) final others = final ∷ others
   put_at at_back (Some item) final others = others ++ final ∷ []
 
-  -- this item, if there is one, holds this when the borrow ends
+  -- If there is an item, this is its value when the borrow ends.
   abbrev pub EndsIf : (GName → Item → Fml) → Option (MutBor Item) → Item → Fml
   EndsIf Ends None final = ftrue
   EndsIf Ends (Some item) final = Ends item.ghost_name final
 
 module _ {Walk Item : Type 0} where
-  -- the iterator after all calls
+  -- The iterator after all calls.
   abbrev pub walk_after : Walk → List (HeldDraw Walk Item) → Walk
   walk_after walk [] = walk
   walk_after walk (draw ∷ draws) = walk_after draw.after draws
 
-  -- what all items hold last, where `others` are those that no call drew
+  -- The final values of all items. `others` are the final values of the items that no call drew.
   abbrev pub final_items : List (HeldDraw Walk Item) → List Item → List Item
   final_items [] others = others
   final_items (draw ∷ draws) others = put_at draw.end draw.item draw.final (final_items draws others)
 
-  -- each call gave the first or the last item that was left, or none if none was left
+  -- Each call returned the first or the last remaining item, or none if no item remained.
   module _ (left : Walk → List Item) where
     abbrev pub YieldsAt : End → Walk → Option (MutBor Item) → Walk → Type 0
     YieldsAt at_front = YieldsFirstMut left
@@ -60,7 +61,7 @@ module _ {Walk Item : Type 0} where
     AreDraws walk (draw ∷ draws) =
         YieldsAt draw.end walk draw.item draw.after × AreDraws draw.after draws
 
-  -- what the calls say of the borrow's end, and what their items hold then
+  -- The clauses `leaves` of all calls, and the final values of their items.
   module _ (Leaves : End → Walk → Option (MutBor Item) → Walk → Fml) where
     abbrev pub AllLeave : Walk → List (HeldDraw Walk Item) → Fml
     AllLeave walk [] = ftrue
@@ -81,8 +82,8 @@ module _ (T : RattleType) where
   LeavesPixel at_front = LendsFirstPixel T
   LeavesPixel at_back = LendsLastPixel T
 
-  -- what holds of the iterator that `rows_mut` lent of a plane, of any calls, and of what all rows
-  -- hold when the borrow ends
+  -- The premises of the law: `rows_mut` lent the iterator, the calls have their clauses, and these are
+  -- the final values of all rows.
   abbrev pub HeldRows : MutBor (Raster T.Denot) → RowsMut T.Denot
       → List (HeldDraw (RowsMut T.Denot) (List T.Denot)) → List (List T.Denot) → Fml
   HeldRows plane walk draws others =
@@ -90,7 +91,7 @@ module _ (T : RattleType) where
       (fsep (AllLeave LeavesRow walk draws)
       (fsep (AllEnd (EndsAs T) draws) (FinalRows T (walk_after walk draws) others)))
 
-  -- then these rows are the plane's table, and all else of it is as before
+  -- The final values of the rows are the table of the plane, and the rest of the plane is unchanged.
   abbrev pub HeldRowsMakeTheTable : Fml
   HeldRowsMakeTheTable =
       fall (MutBor (Raster T.Denot)) (λ plane.
@@ -103,7 +104,7 @@ module _ (T : RattleType) where
       fall (map length (final_items draws others) ≡ map length (table_of plane.now)) (λ _.
       fwand (HeldRows plane walk draws others) (EndsWith T plane (final_items draws others))))))))))
 
-  -- the same of pixels
+  -- The premises of the law for pixels.
   abbrev pub HeldPixels : MutBor (Raster T.Denot) → PixelsMut T.Denot
       → List (HeldDraw (PixelsMut T.Denot) T.Denot) → List T.Denot → Fml
   HeldPixels plane walk draws others =

@@ -1,4 +1,4 @@
--- Items that are held: what the calls that drew them say, put together. Assumes `Logic`.
+-- Items that a caller holds: the clauses of the calls that drew them, combined. Assumes `Logic`.
 use Rattle.v_frame_buffer.proofs.Steps.{◌≡◌, ◌+◌, List, [], ◌∷◌, ◌++◌, length, map, Option, Some, None, MutBor, refl, sym, ap, ◌∙◌, arith, ent, RattleType, Ura, ‵}
 use Rattle.v_frame_buffer.proofs.Steps.{◌$◌, ◌∵◌, !, qed, assume, done, drop, each, fsplit, move, use1, use2, fjoin, fsep, Fml, Logic, sem, apply∗, emp}
 use Rattle.std.proofs.Common.{length-append}
@@ -18,7 +18,7 @@ use Rattle.v_frame_plane.specs.declared.rows_mut.RowsMut.{RowsMut}
 use Rattle.v_frame_plane.specs.declared.pixels_mut.PixelsMut.{PixelsMut}
 use Rattle.v_frame_plane.proofs.lent.EndsTable.{lends_table}
 
--- there are as many final values as items before the calls
+-- The number of final values is the number of items before the calls.
 module _ {Walk Item : Type 0} (left : Walk → List Item) where
   one_more : (end : End) (old new : Walk) (item : Option (MutBor Item)) (final : Item) (others : List Item) →
       YieldsAt left end old item new → length others ≡ length (left new) →
@@ -40,7 +40,7 @@ module _ {Walk Item : Type 0} (left : Walk → List Item) where
   as_many walk (draw ∷ draws) others are same = one_more draw.end walk draw.after draw.item draw.final
       (final_items draws others) are.0 (as_many draw.after draws others are.1 same)
 
--- the final values of the items that are left, and of those that the calls drew, are those before the calls
+-- The final values of the remaining items and of the drawn items make up the final values before the calls.
 module _ {M : Type 1} {𝓤 : Ura M} (𝓛 : Logic 𝓤) {Walk Item : Type 0} (left : Walk → List Item)
     (Leaves : End → Walk → Option (MutBor Item) → Walk → Fml) (Ends : GName → Item → Fml)
     (Final : Walk → List Item → Fml)
@@ -67,7 +67,7 @@ module _ {M : Type 1} {𝓤 : Ura M} (𝓛 : Logic 𝓤) {Walk Item : Type 0} (l
       (fsep (EndsIf Ends draw.item draw.final) (Leaves draw.end walk draw.item draw.after)) in
       qed 𝓛 (‵ (fsep (AllLeave Leaves walk (draw ∷ draws)) (fsep (AllEnd Ends (draw ∷ draws)) (Final last others))) ∷ []) ∵
       fsplit ! $ fsplit ! $ move ! (2 ∷ []) $ fsplit ! $ fsplit ! $
-      -- [how the first item ends; how the others end; the last iterator; what the first call leaves; what the others leave]
+      -- [final value of the first item; of the others; the last iterator; clause of the first call; clauses of the others]
       move ! (1 ∷ 2 ∷ []) $ fjoin ! $ move ! (3 ∷ 0 ∷ []) $ fjoin ! $
       use1 𝓛 (‵ (Final draw.after finals)) (all_back draw.after draws others are.1 same) $
       move ! (1 ∷ 2 ∷ []) $ fjoin ! $ move ! (1 ∷ 0 ∷ []) $ fjoin ! $
@@ -75,7 +75,7 @@ module _ {M : Type 1} {𝓤 : Ura M} (𝓛 : Logic 𝓤) {Walk Item : Type 0} (l
       (one_back draw.end walk draw.after draw.item draw.final finals (as_many left draw.after draws others are.1 same)) $ done !
 
 module _ {M : Type 1} {𝓤 : Ura M} (𝓛 : Logic 𝓤) (T : RattleType) where
-  -- what a call says of any final values
+  -- The clause of one call, for any final values.
   no_row : (end : End) (old new : RowsMut T.Denot) (others : List (List T.Denot)) →
       ent 𝓤 (sem 𝓛 (LeavesRow T end old None new)) (sem 𝓛 (fwand (FinalRows T new others) (FinalRows T old others)))
   no_row at_front old new others = record { apply = λ a says. says others }
@@ -102,7 +102,7 @@ module _ {M : Type 1} {𝓤 : Ura M} (𝓛 : Logic 𝓤) (T : RattleType) where
   one_pixel at_front old new pixel final others = record { apply = λ a says. says (final, others) }
   one_pixel at_back old new pixel final others = record { apply = λ a says. says (final, others) }
 
-  -- so the item of one call goes back
+  -- The final value of the item of one call is added to those of the remaining items.
   module _ (New Old Ending Leaves : Fml) where
     none_back : ent 𝓤 (sem 𝓛 Leaves) (sem 𝓛 (fwand New Old)) → ent 𝓤 (sem 𝓛 (fsep New (fsep Ending Leaves))) (sem 𝓛 Old)
     none_back says = qed 𝓛 (‵ (fsep New (fsep Ending Leaves)) ∷ []) ∵
